@@ -1,0 +1,76 @@
+"""Our own checks, after `rt ci`. Each prints a line; the last line is 'N passed, M failed'."""
+import subprocess
+import sys
+import tempfile
+from pathlib import Path
+
+sys.dont_write_bytecode = True
+ROOT = Path(__file__).resolve().parent.parent
+sys.path.insert(0, str(ROOT / "checks"))
+
+import claims  # noqa: E402
+
+
+def claims_hold():
+    """docs/CLAIMS.md names only what exists."""
+    return claims.faults((ROOT / "docs/CLAIMS.md").read_text(), ROOT)
+
+
+def claims_check_catches():
+    """The check of claims refuses a wrong name, a wrong file, a row with no name and an empty page, and takes a right row."""
+    with tempfile.TemporaryDirectory() as folder:
+        file = Path(folder) / "crates/a/proofs/A.antt"
+        file.parent.mkdir(parents=True)
+        file.write_text("pub right : A\nright = a\n\nprivate : A\nprivate = a\n")
+        code = Path(folder) / "crates/a/src/lib.rt"
+        code.parent.mkdir(parents=True)
+        code.write_text("pub fn get() -> u64\n    ensures ends-within { x }\n{\n    0\n}\n")
+        row = "| said | `{}` | `{}` |"
+        good = [row.format("right", "crates/a/proofs/A.antt"), row.format("ends-within", "crates/a/src/lib.rt"), row.format("get", "crates/a/src/lib.rt")]
+        bad = [
+            row.format("wrong", "crates/a/proofs/A.antt"),
+            row.format("private", "crates/a/proofs/A.antt"),
+            row.format("right", "crates/a/proofs/B.antt"),
+            row.format("right", "crates/a/src/lib.rt"),
+            "| said | no name | `crates/a/proofs/A.antt` |",
+            "no table here",
+        ]
+        wrong = [f"took: {text}" for text in bad if not claims.faults(text, folder)]
+        wrong += [f"refused: {text}" for text in good if claims.faults(text, folder)]
+        return wrong
+
+
+def layout_kept():
+    """Every file of Rattle and antt is in the formatter's layout."""
+    run = subprocess.run(["rt", "fmt", "--check"], cwd=ROOT, capture_output=True, text=True)
+    return [] if run.returncode == 0 else (run.stdout + run.stderr).split("\n")[:8] or ["rt fmt --check failed"]
+
+
+def no_holes():
+    """No file of antt has a hole or an axiom of its own."""
+    wrong = []
+    for file in sorted(ROOT.glob("crates/**/*.antt")):
+        for number, line in enumerate(file.read_text().split("\n"), 1):
+            code = line.split("--")[0]
+            if any(word == "?" or word.startswith("{!") or word == "axiom" for word in code.replace("(", " ").replace(")", " ").split()):
+                wrong.append(f"{file.relative_to(ROOT)}:{number}: {line.strip()}")
+    return wrong
+
+
+CHECKS = [claims_hold, claims_check_catches, layout_kept, no_holes]
+
+
+def main():
+    failed = 0
+    for check in CHECKS:
+        wrong = check()
+        print(f"{'FAILED' if wrong else 'ok'}: {check.__doc__.splitlines()[0]}")
+        for line in wrong:
+            print(f"    {line}")
+        failed += bool(wrong)
+    print(f"{len(CHECKS) - failed} passed, {failed} failed")
+    return 1 if failed else 0
+
+
+if __name__ == "__main__":
+    sys.exit(main())

@@ -1,0 +1,2 @@
+-- The digits of a number in base two.
+pub mod Digits
