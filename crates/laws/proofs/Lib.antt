@@ -11,3 +11,4 @@ pub mod Aligned
 pub mod Apart
 pub mod Exactly
 pub mod Histories
+pub mod Room

@@ -184,7 +184,7 @@ give-run {m} {j} {T} w k d e x f =
     let c : Change j whole (vacant k) d 0 T (x .new (vacant k)) = rw f at (x .change (vacant k)) in
     record { tree = x .new (vacant k); wf = change-wf c w e (vacant-wf k); removed = rw (zero-mul (2 ^ k)) at (run-given k d 0 j w e c) }
 
-leaf-blocks : (c q bits : ℕ) → blocks 0 q (leafOf c bits) ≡ slotBlocks c q 0 (slots c) bits
+pub leaf-blocks : (c q bits : ℕ) → blocks 0 q (leafOf c bits) ≡ slotBlocks c q 0 (slots c) bits
 unfolding leafOf blocks
 leaf-blocks c q zero = sym (slots-none c q (slots c) 0)
 leaf-blocks c q (suc b) = refl

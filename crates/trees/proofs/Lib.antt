@@ -11,3 +11,5 @@ pub mod Given
 pub mod Sums
 pub mod Accounts
 pub mod Amounts
+pub mod Steps
+pub mod Returns

@@ -1,0 +1,2 @@
+-- The laws of cells.
+pub mod Cell

@@ -1,0 +1,2 @@
+-- How a cell of the table is packed.
+pub mod Cell

@@ -1,0 +1,26 @@
+-- The laws of tables.
+pub mod Nodes
+pub mod Cells
+pub mod Vacant
+pub mod Off
+pub mod Up
+pub mod Stores
+pub mod Mended
+pub mod Summaries
+pub mod Standing
+pub mod Changed
+pub mod ChangedPages
+pub mod Down
+pub mod Locate
+pub mod Found
+pub mod FoundSlot
+pub mod Sights
+pub mod Located
+pub mod Parts
+pub mod OneTable
+pub mod Start
+pub mod Local
+pub mod Sound
+pub mod LevelSums
+pub mod NodeSums
+pub mod Sums
