@@ -8,6 +8,7 @@ sys.dont_write_bytecode = True
 ROOT = Path(__file__).resolve().parent.parent
 sys.path.insert(0, str(ROOT / "checks"))
 
+import accesses  # noqa: E402
 import claims  # noqa: E402
 
 
@@ -57,7 +58,37 @@ def no_holes():
     return wrong
 
 
-CHECKS = [claims_hold, claims_check_catches, layout_kept, no_holes]
+def crates():
+    """The crates that crates.txt lists."""
+    lines = (line.split("#")[0] for line in (ROOT / "crates.txt").read_text().split("\n"))
+    return [line.split(":")[0].strip() for line in lines if ":" in line]
+
+
+def accesses_counted():
+    """Outside the crate cells no function reads or writes an element of a slice of u64."""
+    wrong = []
+    for crate in crates():
+        for name, body in accesses.functions(accesses.mir_of(ROOT, crate)):
+            if name.startswith(crate + "::") and crate != "cells" and accesses.touches(body):
+                wrong.append(f"{name} reaches an element of a slice of u64")
+    inside = {name for name, body in accesses.functions(accesses.mir_of(ROOT, "cells")) if accesses.touches(body)}
+    if inside != {"cells::get", "cells::put"}:
+        wrong.append(f"in cells, elements are reached by {sorted(inside)} and not by get and put alone")
+    return wrong
+
+
+def access_check_catches():
+    """The check of accesses catches a function that reads, writes or lends an element, and takes one that only makes a part."""
+    with tempfile.TemporaryDirectory() as folder:
+        source = Path(folder) / "crates/sample/src/lib.rt"
+        source.parent.mkdir(parents=True)
+        (Path(folder) / "crates.txt").write_text("sample:\n")
+        source.write_text(accesses.SAMPLE)
+        seen = {name.split("::")[1]: accesses.touches(body) for name, body in accesses.functions(accesses.mir_of(folder, "sample")) if name.startswith("sample::")}
+        return [f"{name}: {seen.get(name)}" for name, right in accesses.VERDICTS.items() if seen.get(name) is not right]
+
+
+CHECKS = [claims_hold, claims_check_catches, layout_kept, no_holes, accesses_counted, access_check_catches]
 
 
 def main():

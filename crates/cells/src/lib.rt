@@ -18,7 +18,7 @@ const TAG_SPAN: u64 = 64;
 const MASK_UNIT: u64 = ROOM_SPAN * TAG_SPAN;
 
 // The tag of a node that is one large live block.
-const WHOLE_TAG: u64 = 63;
+pub const WHOLE_TAG: u64 = 63;
 
 // ---- the table: every access is counted (section 5)
 

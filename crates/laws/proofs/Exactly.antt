@@ -124,7 +124,8 @@ given-once m L o = rw (find-removed o L) refl
 
 -- ---- refusals
 
-remove-unfound : (o : ℕ) (L : Live) → find (startsAt o) L ≡ none → remove o L ≡ L
+-- where no live block starts at o, none is removed
+pub remove-unfound : (o : ℕ) (L : Live) → find (startsAt o) L ≡ none → remove o L ≡ L
 unfolding find remove
 remove-unfound o [] e = refl
 remove-unfound o (x ∷ L) e = go (split (startsAt o x)) (remove-unfound o L)

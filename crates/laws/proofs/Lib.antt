@@ -12,3 +12,4 @@ pub mod Apart
 pub mod Exactly
 pub mod Histories
 pub mod Room
+pub mod AtOnce

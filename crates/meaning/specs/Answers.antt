@@ -5,7 +5,7 @@ use mathlib.Core.List.{[], _∷_}
 use Prim.Native.Nat.{_*_, _+_, _-_, _/_, _^_, suc, zero, ℕ}
 use lib.Dec.{eqb, leb, ltb}
 use Rattle.meaning.specs.Blocks.{Block, Live, arena, ends, large, mMost, pageBytes, pages, sizeCount, slot, slots, small, smallMost}
-use Rattle.meaning.specs.Search.{any, bind, count, every, find, has, least, orElse}
+use Rattle.meaning.specs.Search.{any, bind, count, every, find, has, least, orElse, orZero}
 
 -- ---- what is free, and what a page serves
 
@@ -54,6 +54,10 @@ largePlace m L k = bind (least (λ j. clear L (large k j)) (2 ^ (m - k))) (λ j.
 -- the block that a take of n bytes gets
 unfoldable pub place : ℕ → Live → ℕ → Option Block
 place m L n = cond (leb n smallMost) (bind (sizeFor n) (smallPlace m L)) (bind (kFor m n) (largePlace m L))
+
+-- the size of the block that a take of n bytes gets
+unfoldable pub sizeGiven : ℕ → ℕ → ℕ
+sizeGiven m n = cond (leb n smallMost) (orZero small (sizeFor n)) (orZero (λ k. pageBytes * 2 ^ k) (kFor m n))
 
 unfoldable pub insert : Block → Live → Live
 insert b [] = b ∷ []
@@ -114,9 +118,12 @@ found b = record { refusal = 0; first = b .start; second = b .size; third = 0 }
 abbrev pub three : ℕ → ℕ → ℕ → Answer
 three live held room = record { refusal = 0; first = live; second = held; third = room }
 
--- the verdict of a check-up that finds the table sound
+-- the verdicts of a check-up
 abbrev pub sound : Answer
 sound = record { refusal = 0; first = 1; second = 0; third = 0 }
+
+abbrev pub unsound : Answer
+unsound = record { refusal = 0; first = 0; second = 0; third = 0 }
 
 unfoldable pub orRefuse : ℕ → (Block → Answer) → Option Block → Answer
 orRefuse n f none = refused n
@@ -150,3 +157,15 @@ reply enough m L r = cond (ltb mMost m) (refused 6) (cond enough (answer m L r) 
 
 unfoldable pub next : Bool → ℕ → Live → Request → Live
 next enough m L r = cond (leb m mMost && enough) (after m L r) L
+
+-- the refusals that no live block has a part in, in their order: 6, 5, then those of the argument; 0 where there is none
+unfoldable pub badArgument : ℕ → Request → ℕ
+badArgument m start = 0
+badArgument m (take n) = cond (eqb n 0) 1 (cond (ltb (arena m) n) 2 0)
+badArgument m (giveBack o) = cond (leb (arena m) o) 4 0
+badArgument m (which o) = cond (leb (arena m) o) 4 0
+badArgument m figures = 0
+badArgument m checkUp = 0
+
+unfoldable pub refusedAtOnce : Bool → ℕ → Request → ℕ
+refusedAtOnce enough m r = cond (ltb mMost m) 6 (cond enough (badArgument m r) 5)

@@ -5,7 +5,7 @@ use Prim.Native.Nat.{_%_, _*_, _+_, _-_, _/_, suc, zero, ℕ}
 use lib.Dec.{leb, ltb}
 use Rattle.meaning.specs.Answers.{clear, free, holds, serves}
 use Rattle.meaning.specs.Blocks.{Live, pageBytes, sizeCount, slot, slots, small}
-use Rattle.meaning.specs.Search.{any, count, least}
+use Rattle.meaning.specs.Search.{any, count, least, orZero}
 
 -- the number of the size that page q serves
 unfoldable pub servedSize : Live → ℕ → Option ℕ
@@ -43,15 +43,10 @@ unfoldable pub total : (ℕ → ℕ) → ℕ → ℕ → ℕ
 total f lo zero = 0
 total f lo (suc n) = f lo + total f (suc lo) n
 
--- a number that belongs to the size that a page serves, and 0 where it serves none
-unfoldable pub ofServed : (ℕ → ℕ) → Option ℕ → ℕ
-ofServed f none = 0
-ofServed f (some c) = f c
-
 -- the bytes of page q in slots that are not live
 unfoldable pub idleOfPage : Live → ℕ → ℕ
-idleOfPage L q = ofServed (λ c. small c * count (λ i. clear L (slot c q i)) 0 (slots c)) (servedSize L q)
+idleOfPage L q = orZero (λ c. small c * count (λ i. clear L (slot c q i)) 0 (slots c)) (servedSize L q)
 
 -- the bytes left over at the end of page q
 unfoldable pub leftOverOfPage : Live → ℕ → ℕ
-leftOverOfPage L q = ofServed (λ c. pageBytes - slots c * small c) (servedSize L q)
+leftOverOfPage L q = orZero (λ c. pageBytes - slots c * small c) (servedSize L q)

@@ -18,6 +18,11 @@ unfoldable pub count : (ℕ → Bool) → ℕ → ℕ → ℕ
 count p lo zero = 0
 count p lo (suc n) = cond (p lo) 1 0 + count p (suc lo) n
 
+-- a number of what a search found, or 0
+unfoldable pub orZero : (ℕ → ℕ) → Option ℕ → ℕ
+orZero f none = 0
+orZero f (some k) = f k
+
 module _ {A : Type 0} where
   -- whether a search found something
   unfoldable pub has : Option A → Bool

@@ -17,9 +17,10 @@ use Rattle.laws.proofs.Logic.{split}
 use Rattle.meaning.proofs.Played.{at}
 use Rattle.meaning.specs.Answers.{liveBytes}
 use Rattle.meaning.specs.Blocks.{Live, arena, pageBytes, sizeCount, slot, slots, small}
+use Rattle.meaning.specs.Bytes.{total}
 use Rattle.trees.specs.Tree.{slotBlocks}
 use Rattle.table.proofs.LevelSums.{level-sum-le, levels-sum-le}
-use Rattle.table.specs.Sums.{byTag, cutLive, isCut, levelSum, levelsSum, nodeHeld, nodeLive}
+use Rattle.table.specs.Sums.{byTag, cutLive, isCut, levelsSum, nodeHeld, nodeLive}
 use lib.Count.{ones as countOnes}
 
 -- ---- what a node adds
@@ -83,11 +84,11 @@ level-span m h n l b =
     rw e (mul-le-mul-left (2 ^ h) b)
 
 -- a sum over nodes of one level is at most the arena
-pub level-live-le : (t : List ℕ) (pages m h v n : ℕ) → h ≤ m → n ≤ 2 ^ (m - h) → levelSum (nodeLive t pages h) v n ≤ arena m
+pub level-live-le : (t : List ℕ) (pages m h v n : ℕ) → h ≤ m → n ≤ 2 ^ (m - h) → total (nodeLive t pages h) v n ≤ arena m
 level-live-le t pages m h v n l b = omega (arith, level-sum-le (nodeLive t pages h) (pageBytes * 2 ^ h) v n (node-live-le t pages h), mul-assoc pageBytes (2 ^ h) n, level-span m h n l b)
 
 -- and at most all pages
-pub level-held-le : (t : List ℕ) (m h v n : ℕ) → h ≤ m → n ≤ 2 ^ (m - h) → levelSum (nodeHeld t h) v n ≤ 2 ^ m
+pub level-held-le : (t : List ℕ) (m h v n : ℕ) → h ≤ m → n ≤ 2 ^ (m - h) → total (nodeHeld t h) v n ≤ 2 ^ m
 level-held-le t m h v n l b = omega (arith, level-sum-le (nodeHeld t h) (2 ^ h) v n (node-held-le t h), level-span m h n l b)
 
 -- the sum over the levels lower than h is at most h times the arena

@@ -6,6 +6,7 @@ use lib.Dec.{eqb, leb, ltb}
 use lib.ListN.{getD}
 use Rattle.cells.specs.Cell.{openCount, tagIn, wholeTag}
 use Rattle.meaning.specs.Blocks.{pageBytes, pages, sizeCount, slots, small}
+use Rattle.meaning.specs.Bytes.{total}
 
 -- a tag that names a size
 unfoldable pub isCut : ℕ → Bool
@@ -27,16 +28,10 @@ nodeLive t pages h v = byTag h (tagIn (getD t v 0)) (pageBytes * 2 ^ h) (cutLive
 unfoldable pub nodeHeld : List ℕ → ℕ → ℕ → ℕ
 nodeHeld t h v = byTag h (tagIn (getD t v 0)) (2 ^ h) 1
 
--- the sum of f over n numbers from v on
-unfoldable pub levelSum : (ℕ → ℕ) → ℕ → ℕ → ℕ
-levelSum f v zero = 0
-levelSum f v (suc n) = f v + levelSum f (suc v) n
-
 -- the sum of f over all nodes lower than the height h
 unfoldable pub levelsSum : (ℕ → ℕ → ℕ) → ℕ → ℕ → ℕ
-unfolding levelSum
 levelsSum f m zero = 0
-levelsSum f m (suc h) = levelsSum f m h + levelSum (f h) (2 ^ (m - h)) (2 ^ (m - h))
+levelsSum f m (suc h) = levelsSum f m h + total (f h) (2 ^ (m - h)) (2 ^ (m - h))
 
 -- the sum of f over the node v of height h and all nodes below it
 unfoldable pub treeSum : (ℕ → ℕ → ℕ) → ℕ → ℕ → ℕ

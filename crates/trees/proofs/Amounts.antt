@@ -7,23 +7,18 @@ use borrow.Author.Tests.{le-leb, le-ltb, lt-leb, lt-ltb, ltb-true}
 use lib.Dec.{leb, ltb}
 use native.Mathlib.Nat.{add-zero, div-eq-of-lt, div-mul-le-self, mul-add-div, mul-comm, zero-add}
 use native.Mathlib.Omega.{arith}
+use Rattle.laws.proofs.Apart.{block-inside}
 use Rattle.laws.proofs.Counting.{count-all, count-between, count-cong, count-even, count-none, count-not, count-or, count-parts, count-runs, count-shift, total-cong}
 use Rattle.laws.proofs.Logic.{and-right}
-use Rattle.laws.proofs.Sizes.{slot-in, small-pos}
+use Rattle.laws.proofs.Sizes.{small-pos}
 use Rattle.meaning.proofs.Played.{at}
 use Rattle.meaning.specs.Answers.{clear, free, heldBytes, holds, liveBytes}
-use Rattle.meaning.specs.Blocks.{Allowed, BeforeAll, Block, IsBlock, Live, allowed-none, allowed-some, arena, before-none, before-some, ends, is-large, is-slot, pageBytes, slot, slots, small}
-use Rattle.meaning.specs.Bytes.{idleOfPage, inFree, inIdle, inLeftOver, inLive, leftOverOfPage, ofServed, servedSize, servesOne, total}
-use Rattle.meaning.specs.Search.{any, count}
+use Rattle.meaning.specs.Blocks.{Allowed, BeforeAll, Block, Live, allowed-none, allowed-some, arena, before-none, before-some, ends, pageBytes, slot, slots, small}
+use Rattle.meaning.specs.Bytes.{idleOfPage, inFree, inIdle, inLeftOver, inLive, leftOverOfPage, servedSize, servesOne, total}
+use Rattle.meaning.specs.Search.{any, count, orZero}
 use Rattle.trees.proofs.Accounts.{places-add-up}
-use Rattle.trees.proofs.Runs.{range, span}
 
 -- ---- live
-
--- a block ends in the arena
-pub block-in-arena : {m : ℕ} {b : Block} → IsBlock m b → ends b ≤ arena m
-block-in-arena (is-slot c q i a l h) = omega (arith, slot-in c i h)
-block-in-arena {m} (is-large k j a l) = omega (arith, range (2 ^ k) 0 j (2 ^ (m - k)) (omega arith) (omega arith), span {h = m} k (m - k) (omega arith))
 
 -- a byte of a block is in none that stands after it
 after-block : {b : Block} {L : Live} → BeforeAll b L → (o : ℕ) → o < ends b → inLive L o ≡ false
@@ -42,7 +37,7 @@ unfolding inLive any liveBytes
 live-is-first-sum {m} allowed-none = count-none _ 0 (arena m) (λ j a b. refl)
 live-is-first-sum {m} (allowed-some {b = b} {L = L} i f a) =
     count-or (λ o. holds o b) (inLive L) 0 (arena m) (λ o e. after-block f o (before-end o b e))
-    ∙ ap₂ _+_ (unfold holds in count-between (b .start) (b .size) (arena m) (block-in-arena i)) (live-is-first-sum a)
+    ∙ ap₂ _+_ (unfold holds in count-between (b .start) (b .size) (arena m) (block-inside i)) (live-is-first-sum a)
 
 -- ---- free
 
@@ -90,14 +85,14 @@ left-over-served c =
 
 -- a test of a byte that asks which size its page serves: its count over page q
 page-count : (L : Live) (p : ℕ → ℕ → ℕ → Bool) (q : ℕ) → count (λ o. servesOne (p (o / pageBytes) (o % pageBytes)) (servedSize L (o / pageBytes))) (pageBytes * q) pageBytes
-    ≡ ofServed (λ c. count (λ r. p q r c) 0 pageBytes) (servedSize L q)
-unfolding servesOne ofServed
+    ≡ orZero (λ c. count (λ r. p q r c) 0 pageBytes) (servedSize L q)
+unfolding servesOne orZero
 page-count L p q = go (servedSize L q) refl
   where
     test : ℕ → Bool
     test o = servesOne (p (o / pageBytes) (o % pageBytes)) (servedSize L (o / pageBytes))
 
-    go : (t : Option ℕ) → servedSize L q ≡ t → count test (pageBytes * q) pageBytes ≡ ofServed (λ c. count (λ r. p q r c) 0 pageBytes) t
+    go : (t : Option ℕ) → servedSize L q ≡ t → count test (pageBytes * q) pageBytes ≡ orZero (λ c. count (λ r. p q r c) 0 pageBytes) t
     go none e = count-none test (pageBytes * q) pageBytes (λ o a b. let z : o / pageBytes ≡ q = omega arith in rw (z, e) refl)
     go (some c) e =
         rw (add-zero (pageBytes * q)) at (count-shift test (λ r. p q r c) (pageBytes * q) 0 pageBytes (λ r a b.
@@ -107,11 +102,11 @@ page-count L p q = go (servedSize L q) refl
 
 -- the same count over the arena, where for each size it is known over a page
 arena-count : (m : ℕ) (L : Live) (p : ℕ → ℕ → ℕ → Bool) (f : ℕ → ℕ → ℕ) → ((q c : ℕ) → count (λ r. p q r c) 0 pageBytes ≡ f q c)
-    → count (λ o. servesOne (p (o / pageBytes) (o % pageBytes)) (servedSize L (o / pageBytes))) 0 (arena m) ≡ total (λ q. ofServed (f q) (servedSize L q)) 0 (2 ^ m)
-unfolding ofServed
+    → count (λ o. servesOne (p (o / pageBytes) (o % pageBytes)) (servedSize L (o / pageBytes))) 0 (arena m) ≡ total (λ q. orZero (f q) (servedSize L q)) 0 (2 ^ m)
+unfolding orZero
 arena-count m L p f h = count-runs _ pageBytes 0 (2 ^ m) ∙ total-cong _ _ 0 (2 ^ m) (λ q a b. page-count L p q ∙ go q (servedSize L q))
   where
-    go : (q : ℕ) (t : Option ℕ) → ofServed (λ c. count (λ r. p q r c) 0 pageBytes) t ≡ ofServed (f q) t
+    go : (q : ℕ) (t : Option ℕ) → orZero (λ c. count (λ r. p q r c) 0 pageBytes) t ≡ orZero (f q) t
     go q none = refl
     go q (some c) = h q c
 

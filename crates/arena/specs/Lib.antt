@@ -1,0 +1,2 @@
+-- What the six requests promise.
+pub mod Promises

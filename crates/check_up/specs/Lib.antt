@@ -1,0 +1,2 @@
+-- What a check-up ensures.
+pub mod Checked

@@ -1,0 +1,2 @@
+-- What the figures ensure.
+pub mod Summed

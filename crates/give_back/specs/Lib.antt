@@ -1,0 +1,2 @@
+-- What giving a block back ensures.
+pub mod Gave

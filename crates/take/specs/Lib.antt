@@ -1,0 +1,2 @@
+-- What taking a block ensures.
+pub mod Took

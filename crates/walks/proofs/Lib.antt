@@ -1,0 +1,3 @@
+-- What the walks look for, and what a store and a climb make together.
+pub mod Puts
+pub mod Wants

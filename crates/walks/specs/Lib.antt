@@ -1,0 +1,2 @@
+-- What the walks ensure.
+pub mod Posts

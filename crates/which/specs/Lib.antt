@@ -1,0 +1,2 @@
+-- What asking for the block of a byte ensures.
+pub mod Told
