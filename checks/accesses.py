@@ -160,6 +160,26 @@ def touches(body):
     return sum(1 for place in uses if reaches(place)) > parts
 
 
+def origins(body, local, seen=()):
+    """The parameters that a local is made from, by their numbers."""
+    if 0 < int(local) <= int(body[3]):
+        return {local}
+    found = set()
+    for node in walk(body):
+        if len(node) == 3 and node[0] == "assign" and node[1][1] == local and local not in seen:
+            for place in walk(node[2]):
+                if len(place) == 3 and place[0] == "place":
+                    found |= origins(body, place[1], (*seen, local))
+    return found
+
+
+def lent_to(body, callee):
+    """For each call of a function: the parameters that its first argument is made from."""
+    for node in walk(body):
+        if len(node) == 4 and node[0] == "call" and node[1] == ["direct", ["fnRef", f'"{callee}"']]:
+            yield origins(body, place_of(items(node[2])[0])[1])
+
+
 def mir_of(root, crate):
     """What the toolchain prints of a crate."""
     run = subprocess.run(["rt", "mir", crate], cwd=root, capture_output=True, text=True, check=True)

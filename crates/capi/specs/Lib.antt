@@ -1,0 +1,2 @@
+-- What the C functions hand back, as a reply.
+pub mod Said

@@ -1,0 +1,3 @@
+-- Any number of requests, as numbers.
+pub mod Numbers
+pub mod Serving
