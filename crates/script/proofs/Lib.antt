@@ -1,0 +1,3 @@
+-- What the proofs of `script` share, and worked examples.
+mod Laws
+mod Examples
