@@ -1,12 +1,13 @@
 """Every theorem or clause that docs/CLAIMS.md names exists in the file that it names.
 
-A claim is a row of a table whose last cell is a file of crates/ in backticks. Each name in backticks in the cell before it must be
-declared in that file: in antt as a public law, definition, record, type or constructor, in Rattle as a function or a named clause.
+A claim is a row of a table whose last cell is a file of crates/ or checks/ in backticks. Each name in backticks in the cell before it must be
+declared in that file: in antt as a public law, definition, record, type or constructor, in Rattle as a function or a named clause, in Python as
+a function.
 """
 import re
 from pathlib import Path
 
-ROW = re.compile(r"^\|(.+)\|\s*`(crates/[^`]+)`\s*\|\s*$")
+ROW = re.compile(r"^\|(.+)\|\s*`((?:crates|checks)/[^`]+)`\s*\|\s*$")
 
 
 def rows(text):
@@ -25,6 +26,8 @@ def declares(source, name, suffix):
     word = re.escape(name)
     if suffix == ".rt":
         forms = [rf"^\s*pub fn {word}\b", rf"^\s*(ensures|requires) {word} \{{", rf"^\s*pub (struct|enum) {word}\b"]
+    elif suffix == ".py":
+        forms = [rf"^def {word}\("]
     else:
         forms = [
             rf"^\s*(unfoldable |abbrev )*pub {word}( \{{[^}}]*\}})? ?:",

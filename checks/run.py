@@ -1,4 +1,5 @@
 """Our own checks, after `rt ci`. Each prints a line; the last line is 'N passed, M failed'."""
+import functools
 import subprocess
 import sys
 import tempfile
@@ -10,6 +11,8 @@ sys.path.insert(0, str(ROOT / "checks"))
 
 import accesses  # noqa: E402
 import claims  # noqa: E402
+import counts  # noqa: E402
+import mir  # noqa: E402
 
 
 def claims_hold():
@@ -26,13 +29,17 @@ def claims_check_catches():
         code = Path(folder) / "crates/a/src/lib.rt"
         code.parent.mkdir(parents=True)
         code.write_text("pub fn get() -> u64\n    ensures ends-within { x }\n{\n    0\n}\n")
+        script = Path(folder) / "checks/b.py"
+        script.parent.mkdir()
+        script.write_text("def looks():\n    return other()\n")
         row = "| said | `{}` | `{}` |"
-        good = [row.format("right", "crates/a/proofs/A.antt"), row.format("ends-within", "crates/a/src/lib.rt"), row.format("get", "crates/a/src/lib.rt")]
+        good = [row.format("right", "crates/a/proofs/A.antt"), row.format("ends-within", "crates/a/src/lib.rt"), row.format("get", "crates/a/src/lib.rt"), row.format("looks", "checks/b.py")]
         bad = [
             row.format("wrong", "crates/a/proofs/A.antt"),
             row.format("private", "crates/a/proofs/A.antt"),
             row.format("right", "crates/a/proofs/B.antt"),
             row.format("right", "crates/a/src/lib.rt"),
+            row.format("other", "checks/b.py"),
             "| said | no name | `crates/a/proofs/A.antt` |",
             "no table here",
         ]
@@ -58,52 +65,87 @@ def no_holes():
     return wrong
 
 
+@functools.cache
 def crates():
-    """The crates that crates.txt lists."""
+    """The crates that crates.txt lists, each with those that it is built on."""
     lines = (line.split("#")[0] for line in (ROOT / "crates.txt").read_text().split("\n"))
-    return [line.split(":")[0].strip() for line in lines if ":" in line]
+    return {line.split(":")[0].strip(): line.split(":")[1].split() for line in lines if ":" in line}
+
+
+@functools.cache
+def code(root, crate):
+    """The functions of a crate as they are compiled, each with its body."""
+    return {name: body for name, body in mir.functions(mir.mir_of(root, crate)) if name.startswith(crate + "::")}
+
+
+def code_of(sample):
+    """The functions of an example, each with its body."""
+    with tempfile.TemporaryDirectory() as folder:
+        source = Path(folder) / "crates/sample/src/lib.rt"
+        source.parent.mkdir(parents=True)
+        (Path(folder) / "crates.txt").write_text("sample:\n")
+        source.write_text(sample)
+        return code(folder, "sample")
 
 
 # The lists of requests and of answers are slices of u64 too. Two functions of `sequence` reach their elements, and are lent these lists alone:
 # the callers, each with the numbers of its parameters that are such lists. The table is none of them.
 LIST_FUNCTIONS = {"sequence::number_at", "sequence::store_reply"}
+LISTS = {"sequence::all_known": {"1"}, "sequence::serve": {"3", "4"}}
 # The player is the host that lends the table, and no part of the library: it fills a table with garbage and flips bits on purpose.
 HOST_FUNCTIONS = {"breatharena::play::fill", "breatharena::play::flip"}
-LISTS = {"sequence::all_known": {"1"}, "sequence::serve": {"3", "4"}}
 
 
 def accesses_counted():
-    """Outside the crate cells no function of the library reads or writes an element of a slice of u64, but for the lists of requests and answers."""
+    """Only cells::get and cells::put reach an element of a slice of u64, one each, but for the lists of requests and answers."""
     wrong = []
     for crate in crates():
-        for name, body in accesses.functions(accesses.mir_of(ROOT, crate)):
-            if not name.startswith(crate + "::") or crate == "cells":
-                continue
-            if accesses.touches(body) and name not in LIST_FUNCTIONS | HOST_FUNCTIONS:
-                wrong.append(f"{name} reaches an element of a slice of u64")
+        for name, body in code(ROOT, crate).items():
+            right = 1 if name in ("cells::get", "cells::put") else 0
+            if accesses.reached(body) != right and name not in LIST_FUNCTIONS | HOST_FUNCTIONS:
+                wrong.append(f"{name} reaches {accesses.reached(body)} elements of a slice of u64")
+            if right and any(node[0] == "loop" for node in mir.walk(body)):
+                wrong.append(f"{name} has a loop")
+            wrong += [f"{name} lends a slice of u64 to {one}" for one in accesses.lent_outside(body, crates())]
             for callee in LIST_FUNCTIONS:
                 for lent in accesses.lent_to(body, callee):
                     if not lent or not lent <= LISTS.get(name, set()):
                         wrong.append(f"{name} lends {callee} something else than a list of requests or answers")
-    inside = {name for name, body in accesses.functions(accesses.mir_of(ROOT, "cells")) if accesses.touches(body)}
-    if inside != {"cells::get", "cells::put"}:
-        wrong.append(f"in cells, elements are reached by {sorted(inside)} and not by get and put alone")
     return wrong
 
 
 def access_check_catches():
     """The check of accesses catches a function that reads, writes or lends an element, and takes one that only makes a part."""
-    with tempfile.TemporaryDirectory() as folder:
-        source = Path(folder) / "crates/sample/src/lib.rt"
-        source.parent.mkdir(parents=True)
-        (Path(folder) / "crates.txt").write_text("sample:\n")
-        source.write_text(accesses.SAMPLE)
-        seen = {name.split("::")[1]: accesses.touches(body) for name, body in accesses.functions(accesses.mir_of(folder, "sample")) if name.startswith("sample::")}
-        wrong = [f"{name}: {seen.get(name)}" for name, right in accesses.VERDICTS.items() if seen.get(name) is not right]
-        bodies = dict(accesses.functions(accesses.mir_of(folder, "sample")))
-        if list(accesses.lent_to(bodies["sample::lends_a_part"], "sample::count")) != [{"1"}]:
-            wrong.append("lends_a_part: the list that it lends is not seen")
-        return wrong
+    bodies = {name.split("::")[1]: body for name, body in code_of(accesses.SAMPLE).items()}
+    wrong = [f"{name}: {accesses.reached(body)}" for name, body in bodies.items() if accesses.reached(body) != accesses.REACHED.get(name)]
+    if bodies.keys() != accesses.REACHED.keys():
+        wrong.append(f"the functions of the example are {sorted(bodies)}")
+    if list(accesses.lent_to(bodies["lends_a_part"], "sample::count")) != [{"1"}]:
+        wrong.append("lends_a_part: the list that it lends is not seen")
+    if list(accesses.lent_outside(bodies["lends_a_part"], {"sample"})) or list(accesses.lent_outside(bodies["lends_a_part"], {"other"})) != ["sample::count"]:
+        wrong.append("lends_a_part: to whom it lends is not seen")
+    return wrong
+
+
+def part_of(name):
+    """The part that a function plays in counting accesses."""
+    crate = name.split("::")[0]
+    parts = {"arena": "opens", "sequence": "adds", "capi": "asks"} | dict.fromkeys(crates()["arena"], "counts")
+    return parts.get(crate, crate)
+
+
+def counts_kept():
+    """The number of accesses that a request hands out is the count that cells::get and cells::put kept."""
+    bodies = {name: body for crate in crates() for name, body in code(ROOT, crate).items()}
+    return counts.faults(bodies, part_of, "cells::count", "arena::Counted")
+
+
+def count_check_catches():
+    """The check of counts catches each function of its example that counts wrongly, and no other."""
+    bodies = code_of(counts.SAMPLE)
+    said = counts.faults(bodies, lambda name: name.split("::")[1].split("_")[0], "sample::counts_one", "sample::Counted")
+    wrong = [f"{name}: not said: {fault}" for name, fault in counts.FAULTS.items() if not any(one.startswith(f"sample::{name} ") and fault in one for one in said)]
+    return wrong + [f"said: {one}" for one in said if one.split()[0].split("::")[1] not in counts.FAULTS]
 
 
 def says(command, **words):
@@ -162,7 +204,7 @@ def worked_run_printed():
     return [] if numbers == [str(n) for n in range(1, 22)] and last[-3:] == ["8192", "8192", "0"] else run.stdout.split("\n") + run.stderr.split("\n")
 
 
-CHECKS = [claims_hold, claims_check_catches, layout_kept, no_holes, accesses_counted, access_check_catches, model_tested, tests_catch, c_example_runs, c_interface_agrees, player_agrees, worked_run_printed]
+CHECKS = [claims_hold, claims_check_catches, layout_kept, no_holes, accesses_counted, access_check_catches, counts_kept, count_check_catches, model_tested, tests_catch, c_example_runs, c_interface_agrees, player_agrees, worked_run_printed]
 
 
 def main():

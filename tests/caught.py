@@ -7,6 +7,7 @@ The doubles as they stand (fake_player.py, c/fake.c) must pass. A fault is a pie
 
 import os
 import pathlib
+import platform
 import shutil
 import subprocess
 import sys
@@ -187,21 +188,23 @@ def check_players(folder):
         (folder / name).write_text(text)
 
 
-def build(folder, text):
-    """The driver with a library of this text."""
+def build(folder, text, watched=False):
+    """The driver with a library of this text; where it is to count accesses, for x86-64."""
     (folder / 'fake.c').write_text(text)
     driver = folder / 'driver'
-    subprocess.run([os.environ.get('CC', 'cc'), '-std=c11', '-O1', '-w', '-I', HERE / 'c' / 'fake', HERE / 'c' / 'driver.c',
-                    folder / 'fake.c', '-o', driver], check=True)
-    return [str(driver), str(SECONDS)]
+    other = watched and platform.machine() != 'x86_64'
+    compiler = ['x86_64-linux-gnu-gcc', '-static'] if other else [os.environ.get('CC', 'cc')]
+    subprocess.run([*compiler, '-std=c11', '-O1', '-w', '-I', HERE / 'c' / 'fake', HERE / 'c' / 'driver.c', folder / 'fake.c', '-o', driver],
+                   check=True)
+    return [str(HERE.parent / 'tools' / 'run')] * other + [str(driver), str(SECONDS)]
 
 
-def library_finding(command, talks):
+def library_finding(command, talks, watched=False):
     """What capi.py and faults.py find wrong with this driver; None if nothing."""
     try:
         for one in talks:
             one.compare(command)
-        faults.run_campaigns(command, [(m, 7, 6000) for m in range(4)] + [(M_MOST, 7, 2000)])
+        faults.run_campaigns(command, [(m, 7, 6000) for m in range(4)] + [(M_MOST, 7, 2000)], watched)
     except talk.Wrong as wrong:
         return str(wrong)
     return None
@@ -216,6 +219,7 @@ def check_libraries(folder):
     yield 'library as it stands', library_finding(build(folder, text), talks)
     for what, old, new in LIBRARY_FAULTS:
         yield f'library, {what}', library_finding(build(folder, replaced(text, old, new)), talks)
+    yield 'library, more accesses than are promised', library_finding(build(folder, text, watched=True), [], watched=True)
 
 
 def main(shown):

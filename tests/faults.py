@@ -2,8 +2,8 @@
 
 Run: python3 tests/faults.py DRIVER [ARGUMENT ..]     (DRIVER is tests/c/driver.c linked with the library)
 
-The campaigns run in the driver, which checks there what must hold on any table. The verdicts are compared here. Prints one summary
-line; on a disagreement the seed and the cells, and exit 1.
+The campaigns run in the driver, which checks there what must hold on any table, and counts the accesses that the machine makes to the table. The
+verdicts are compared here. Prints one summary line; on a disagreement the seed and the cells, and exit 1.
 """
 
 import itertools
@@ -14,17 +14,21 @@ import sys
 from damage import WIDTH, flipped, some_damage, some_place
 from histories import some_live
 from model import M_MOST
+from play import cost_bounds
 from soundness import sound, table_of
 from talk import Talk, Wrong, answers_of, cells_text
 
 CAMPAIGNS = [(m, 100 + m, 60000) for m in range(4)] + [(m, 200 + m, 4000) for m in range(4, M_MOST)] + [(M_MOST, 300, 20000)]
+ONE_IN = 50   # of the requests that touch each cell is watched where m is above 3
+WATCHED = ('take', 'give', 'which')
 
 
-def run_campaigns(command, campaigns):
-    """Random requests on damaged tables; returns how many requests and flips there were."""
+def run_campaigns(command, campaigns, watched):
+    """Random requests on damaged tables, with their accesses counted or not; returns how many requests and flips there were, and the most accesses."""
     requests = flips = 0
     for m, seed, count in campaigns:
-        got, trouble = answers_of(command, [f'campaign {seed} {count} {m}'])
+        watch = (1 if m < 4 else ONE_IN) if watched else 0
+        got, trouble = answers_of(command, [f'watch {watch}', f'campaign {seed} {count} {m}'])
         if trouble or len(got) != 1:
             raise Wrong(f'campaign {seed} {count} {m}: {trouble or got}')
         line = got[0]
@@ -32,9 +36,11 @@ def run_campaigns(command, campaigns):
         kinds = [counts[f'refused-{number}'] for number in (1, 2, 3, 4)]
         if counts['requests'] < count or not all(kinds) or not counts['flips'] or not counts['answered']:
             raise Wrong(f'campaign {seed} {count} {m} tried too little: {line}')
+        if watched and not all(0 < counts[f'most-{word}'] <= bound for word, bound in zip(WATCHED, cost_bounds(m))):
+            raise Wrong(f'campaign {seed} {count} {m} watched too little, or the accesses are not within the bounds: {line}')
         requests += counts['requests']
         flips += counts['flips']
-    return requests, flips
+    return requests, flips, [counts[f'most-{word}'] for word in WATCHED] if watched else []
 
 
 class Verdicts:
@@ -129,7 +135,7 @@ def all_verdicts():
 
 def main(command):
     try:
-        requests, flips = run_campaigns(command, CAMPAIGNS)
+        requests, flips, most = run_campaigns(command, CAMPAIGNS, watched=True)
         tried = [0, 0]
         for verdicts, more in all_verdicts():
             requests += verdicts.talk.compare(command)
@@ -138,7 +144,9 @@ def main(command):
     except Wrong as wrong:
         print(f'faults: {wrong}')
         return 1
-    print(f'faults: {requests} requests, {flips} flips; check-up agrees on {tried[1]} sound and {tried[0]} other tables')
+    accesses = ', '.join(f'{word} {number}' for word, number in zip(WATCHED, most))
+    print(f'faults: {requests} requests, {flips} flips; accesses that the machine made at m = {M_MOST}, at most: {accesses};'
+          f' check-up agrees on {tried[1]} sound and {tried[0]} other tables')
     return 0
 
 

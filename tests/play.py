@@ -46,9 +46,9 @@ def play(command, text):
 
 
 def cost_bounds(m):
-    """The most cells that one take, give back and which may read or write (DESIGN.md, section 5)."""
+    """The most cells that one take, give back and which may read or write (docs/TABLE.md, the walks)."""
     m = min(m, M_MOST)
-    return 3 * (m + 1) + 2, 2 * (m + 1) + 3, (m + 1) + 1
+    return 3 * (m + 1) + 2, 2 * (m + 1) + 2, max(m + 1, 2)
 
 
 def right_form(line, text):

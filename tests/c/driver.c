@@ -21,9 +21,11 @@
  *   figures                    "figures REFUSAL LIVE HELD ROOM"
  *   checkup                    "checkup REFUSAL SOUND"
  *   needed M                   "needed CELLS", ba_table_cells
+ *   watch EVERY                from here on each take, give and which, and one in so many of the other calls, is made once more, and the
+ *                              accesses that the machine makes to the table are counted and held to the bound; 0: none (x86-64 alone)
  *   campaign SEED COUNT M      so many random requests on damaged tables, then a line of counts
  */
-#define _DEFAULT_SOURCE
+#define _GNU_SOURCE
 #include <inttypes.h>
 #include <signal.h>
 #include <stddef.h>
@@ -33,6 +35,7 @@
 #include <string.h>
 #include <sys/mman.h>
 #include <sys/time.h>
+#include <ucontext.h>
 #include <unistd.h>
 
 #include "breatharena.h"
@@ -61,7 +64,7 @@ struct place {
     uint64_t *table;
 };
 
-static struct place at_end, at_start;
+static struct place at_end, at_start, closed;
 static uint64_t *before; /* the cells before the call */
 static size_t mapped, lent;
 static uint64_t m;
@@ -85,6 +88,20 @@ static void on_signal(int number)
     ignored = write(1, "\n", 1);
     (void)ignored;
     _exit(3);
+}
+
+/* The archive wants memset from whoever links it. This one stores whole cells where it can, as many accesses as start may make; that of a C
+ * library may take other steps.
+ */
+void *memset(void *to, int value, size_t count)
+{
+    size_t done = 0;
+    if ((uintptr_t)to % sizeof(uint64_t) == 0 && count % sizeof(uint64_t) == 0)
+        for (; done < count; done += sizeof(uint64_t))
+            *(volatile uint64_t *)((unsigned char *)to + done) = UINT64_C(0x0101010101010101) * (unsigned char)value;
+    for (; done < count; done++)
+        *(volatile unsigned char *)((unsigned char *)to + done) = (unsigned char)value;
+    return to;
 }
 
 /* Random numbers: splitmix64. */
@@ -141,6 +158,7 @@ static void map_both(size_t cells)
 {
     map_place(&at_end, cells, 1);
     map_place(&at_start, cells, 0);
+    map_place(&closed, cells, 0);
     free(before);
     before = malloc((cells + 1) * sizeof *before);
     if (!before)
@@ -259,6 +277,104 @@ static void check_cells(const struct call *call, const uint64_t *table)
                                                                           : "a request that only reads has changed a cell");
 }
 
+/* Accesses, as the machine makes them. The memory of a third table is closed, so that each instruction that touches it faults. It is
+ * counted, the memory is opened for this one instruction, and the trap after it closes the memory again.
+ */
+
+static uint64_t watch_every, watch_count;
+static volatile uint64_t accesses;
+static volatile int watching, stepping;
+static uint64_t accesses_seen[KINDS], watched_calls; /* the most for each kind */
+
+static void open_table(int open)
+{
+    if (mprotect(closed.base + sysconf(_SC_PAGESIZE), closed.bytes, open ? PROT_READ | PROT_WRITE : PROT_NONE) != 0)
+        wrong("the driver can't open or close its memory");
+}
+
+#ifdef __x86_64__
+enum { TRAP_FLAG = 0x100 };
+
+static void on_fault(int number, siginfo_t *info, void *context)
+{
+    const unsigned char *at = info->si_addr, *first = closed.base + sysconf(_SC_PAGESIZE);
+    if (!watching || stepping || at < first || at >= first + closed.bytes)
+        on_signal(number);
+    accesses++;
+    stepping = 1;
+    open_table(1);
+    ((ucontext_t *)context)->uc_mcontext.gregs[REG_EFL] |= TRAP_FLAG;
+}
+
+static void on_trap(int number, siginfo_t *info, void *context)
+{
+    (void)info;
+    if (!stepping)
+        on_signal(number);
+    stepping = 0;
+    open_table(0);
+    ((ucontext_t *)context)->uc_mcontext.gregs[REG_EFL] &= ~(greg_t)TRAP_FLAG;
+}
+
+static void watch(uint64_t every)
+{
+    struct sigaction fault = {.sa_sigaction = on_fault, .sa_flags = SA_SIGINFO}, trap = {.sa_sigaction = on_trap, .sa_flags = SA_SIGINFO};
+    watch_every = every;
+    if (sigaction(SIGSEGV, &fault, NULL) != 0 || sigaction(SIGTRAP, &trap, NULL) != 0)
+        wrong("the driver can't watch");
+}
+#else
+static void watch(uint64_t every)
+{
+    if (every)
+        wrong("accesses are counted on x86-64 alone");
+}
+#endif
+
+static int is_watched(enum kind kind)
+{
+    return watch_every && (kind == TAKE || kind == GIVE || kind == WHICH || ++watch_count % watch_every == 0);
+}
+
+/* The accesses that a call may make: none where the numbers alone decide. */
+static uint64_t accesses_most(const struct call *call)
+{
+    if (refusal_of_numbers(call))
+        return 0;
+    switch (call->kind) {
+    case START: return needed();
+    case TAKE: return 3 * (m + 1) + 2;
+    case GIVE: return 2 * (m + 1) + 2;
+    case WHICH: return m ? m + 1 : 2;
+    default: return 2 * needed();
+    }
+}
+
+/* The same call once more, on the cells of before, with its accesses counted. */
+static void watched_call(const struct call *call)
+{
+    struct call twin = *call;
+    if (mapped)
+        memcpy(closed.table, before, mapped * sizeof *before);
+    accesses = 0;
+    watching = closed.bytes != 0;
+    if (watching)
+        open_table(0);
+    make_call(&twin, closed.table);
+    if (watching)
+        open_table(1);
+    watching = 0;
+    if (accesses > accesses_most(call))
+        wrong("more accesses than it may make");
+    if (twin.refusal != call->refusal || memcmp(twin.out, call->out, sizeof twin.out) != 0)
+        wrong("the same cells give two answers");
+    if (mapped && memcmp(closed.table, at_end.table, mapped * sizeof *before) != 0)
+        wrong("the same cells and request leave different cells");
+    if (accesses > accesses_seen[call->kind])
+        accesses_seen[call->kind] = accesses;
+    watched_calls++;
+}
+
 static void checked_call(struct call *call)
 {
     struct call twin = *call;
@@ -277,6 +393,8 @@ static void checked_call(struct call *call)
         wrong("the same cells give two answers");
     if (mapped && memcmp(at_end.table, at_start.table, mapped * sizeof *before) != 0)
         wrong("the same cells and request leave different cells");
+    if (is_watched(call->kind))
+        watched_call(call);
 }
 
 static void serve(enum kind kind, uint64_t argument)
@@ -427,8 +545,9 @@ static void campaign_round(void)
 
 static void campaign(uint64_t seed, uint64_t count)
 {
-    count_requests = count_flips = count_tables = count_sound = 0;
+    count_requests = count_flips = count_tables = count_sound = watched_calls = 0;
     memset(count_refusals, 0, sizeof count_refusals);
+    memset(accesses_seen, 0, sizeof accesses_seen);
     memset(recent, 0, sizeof recent);
     random_state = seed;
     while (count_requests < count)
@@ -437,6 +556,11 @@ static void campaign(uint64_t seed, uint64_t count)
            m, count_requests, count_tables, count_flips, count_sound, count_refusals[0]);
     for (int i = 1; i < REFUSALS; i++)
         printf(" refused-%d %" PRIu64, i, count_refusals[i]);
+    if (watch_every) {
+        printf(" watched %" PRIu64, watched_calls);
+        for (int kind = 0; kind < KINDS; kind++)
+            printf(" most-%s %" PRIu64, words[kind], accesses_seen[kind]);
+    }
     printf("\n");
 }
 
@@ -494,6 +618,8 @@ static void command(const char *word)
         dump();
     } else if (strcmp(word, "needed") == 0) {
         printf("needed %" PRIu64 "\n", ba_table_cells(number()));
+    } else if (strcmp(word, "watch") == 0) {
+        watch(number());
     } else if (strcmp(word, "campaign") == 0) {
         uint64_t seed = number(), count = number();
         m = number();

@@ -1,7 +1,7 @@
 // The six requests of document 01, on a table that the caller lends. No request asks anything of its caller: any numbers and any table may come in.
 ghost use mathlib.Core.Path.{_≡_};
 ghost use mathlib.Core.Bool.{cond};
-ghost use Prim.Native.Nat.{_*_, _+_, _≤_};
+ghost use Prim.Native.Nat.{_*_, _+_, _≤_, max};
 ghost use lib.Dec.{leb, ltb};
 ghost use Rattle.meaning.specs.Blocks.{mMost};
 ghost use Rattle.meaning.specs.Answers.{checkUp as ask-check-up, figures as ask-figures, giveBack as ask-give-back, refused, start as ask-start, take as ask-take, which as ask-which};
@@ -120,7 +120,7 @@ pub fn give_back(t: &mut [u64], m: u64, o: u64) -> Counted
     ensures in_order { λ r. ⌜ InOrder m (ask-give-back o) (now (t .entry)) (r .reply) ⌝ }
     ensures refusal_changes_nothing { λ r. ⌜ RefusalAlone (now (t .entry)) (now (t .exit)) (r .reply) ⌝ }
     ensures stays_inside { λ r. ⌜ Kept m (now (t .entry)) (now (t .exit)) ⌝ }
-    ensures ends_within { λ r. ⌜ r .spent ≤ 2 * (m + 1) + 3 ⌝ }
+    ensures ends_within { λ r. ⌜ r .spent ≤ 2 * (m + 1) + 2 ⌝ }
     ensures right { λ r. ⌜ Right m (ask-give-back o) (now (t .entry)) (now (t .exit)) (r .reply) ⌝ }
 {
     let number = table_refusal(m, t.len());
@@ -144,7 +144,7 @@ pub fn which(t: &[u64], m: u64, o: u64) -> Counted
     ensures in_order { λ r. ⌜ InOrder m (ask-which o) (now (t .entry)) (r .reply) ⌝ }
     ensures refusal_alone { λ r. ⌜ RefusalAlone (now (t .entry)) (now (t .entry)) (r .reply) ⌝ }
     ensures stays_inside { λ r. ⌜ ToldInside m o (r .reply) ⌝ }
-    ensures ends_within { λ r. ⌜ r .spent ≤ m + 1 + 1 ⌝ }
+    ensures ends_within { λ r. ⌜ r .spent ≤ 1 + max 1 m ⌝ }
     ensures right { λ r. ⌜ Right m (ask-which o) (now (t .entry)) (now (t .entry)) (r .reply) ⌝ }
 {
     let number = table_refusal(m, t.len());

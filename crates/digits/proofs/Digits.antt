@@ -1,18 +1,18 @@
 -- The laws of digits: two numbers with the same digits are equal; one digit set or cleared; either of two numbers' digits; all digits turned
 -- over; how many are 1. Assumes nothing.
 use mathlib.Core.Path.{_∙_, _≡_, ap, refl, sym}
-use mathlib.Core.Logic.{_≢_, ⊎-elim}
+use mathlib.Core.Logic.{_≢_, _⊎_, inl, inr, ⊎-elim}
 use mathlib.Core.Bool.{_||_, false, not, true}
 use Prim.Native.Nat.{_%_, _*_, _+_, _-_, _/_, _<_, _^_, _≤_, max, suc, zero, ℕ}
 use borrow.Author.Tests.{eq-eqb, eqb-false, eqb-true, ne-eqb}
 use lib.Bits.{bitOr, or-step}
 use lib.Dec.{eqb, eqb·suc-suc, eqb·suc-zero, eqb·zero-suc}
 use lib.Pow.{pow-pos, shr-shr}
-use native.Mathlib.Nat.{pow-suc}
+use native.Mathlib.Nat.{eq-or-lt-of-le, pow-suc}
 use native.Mathlib.Numerals.{one-add, sub-one}
 use native.Mathlib.Omega.{arith}
 use Rattle.laws.proofs.Logic.{contra, le-or-lt, split}
-use Rattle.digits.specs.Digits.{bitAt, ones}
+use Rattle.digits.specs.Digits.{First, bitAt, ones}
 
 -- 0 has no digit 1
 pub bit-zero : (t : ℕ) → bitAt t 0 ≡ false
@@ -196,3 +196,11 @@ bit-complement (suc n) (suc i) x h l = ap (bitAt i) (half-complement n x l) ∙ 
 -- a number with no digit 1 is 0
 pub bits-none : (n x : ℕ) → x < 2 ^ n → ((i : ℕ) → i < n → bitAt i x ≡ false) → x ≡ 0
 bits-none n x p h = bits-ext n x 0 p (omega arith) (λ i l. h i l ∙ sym (bit-zero i))
+
+-- a number has one lowest digit
+pub first-one : (bits i j : ℕ) → First bits i → First bits j → i ≡ j
+first-one bits i j a b = go (le-or-lt i j)
+  where
+    go : (i ≤ j) ⊎ (j < i) → i ≡ j
+    go (inl l) = ⊎-elim (λ (e : i ≡ j). e) (λ (e : i < j). contra (a .there) (b .first i e)) (eq-or-lt-of-le l)
+    go (inr l) = contra (b .there) (a .first j l)

@@ -45,14 +45,14 @@ module _ (m o leaf : ℕ) (t : List ℕ) (p : Tagged) (s s′ : ℕ) (inside : o
 
   module _ (t′ : List ℕ) (r : Reply) (s₁ : ℕ) (same : t′ ≡ t) (spent : s₁ ≡ s′) (a : asAnswer r ≡ refused 4) where
     -- no node has a tag: no block holds the byte
-    pub spot-none : m < p .height → Gave m (2 * m + 5) o t t′ r s s₁
-    spot-none l = gave-refused m (2 * m + 5) o t t′ r s s₁ (omega (arith, at-spot .cost-all)) same a
+    pub spot-none : m < p .height → Gave m (2 * m + 4) o t t′ r s s₁
+    spot-none l = gave-refused m (2 * m + 4) o t t′ r s s₁ (omega (arith, at-spot .cost-all)) same a
         (λ L x. starts-none o (stands-allowed x) (located-none x o (p .height) (above (p .height) leaf) inside found (ap (above (p .height)) place) l))
 
     -- a page's tag above a leaf
-    pub spot-high : p .height ≤ m → p .tag ≢ wholeTag → p .height ≢ 0 → Gave m (2 * m + 5) o t t′ r s s₁
-    spot-high l n h = gave-refused m (2 * m + 5) o t t′ r s s₁ (omega (arith, at-spot .cost-all)) same a (λ L x. absurd (h (spot-page x l n .leaf)))
+    pub spot-high : p .height ≤ m → p .tag ≢ wholeTag → p .height ≢ 0 → Gave m (2 * m + 4) o t t′ r s s₁
+    spot-high l n h = gave-refused m (2 * m + 4) o t t′ r s s₁ (omega (arith, at-spot .cost-all)) same a (λ L x. absurd (h (spot-page x l n .leaf)))
 
     -- the tag of no size
-    pub spot-strange : p .height ≤ m → p .tag ≢ wholeTag → sizeCount < p .tag → Gave m (2 * m + 5) o t t′ r s s₁
-    spot-strange l n c = gave-refused m (2 * m + 5) o t t′ r s s₁ (omega (arith, at-spot .cost-all)) same a (λ L x. absurd (omega (arith, spot-page x l n .size)))
+    pub spot-strange : p .height ≤ m → p .tag ≢ wholeTag → sizeCount < p .tag → Gave m (2 * m + 4) o t t′ r s s₁
+    spot-strange l n c = gave-refused m (2 * m + 4) o t t′ r s s₁ (omega (arith, at-spot .cost-all)) same a (λ L x. absurd (omega (arith, spot-page x l n .size)))

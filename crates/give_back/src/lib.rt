@@ -106,7 +106,7 @@ fn give_slot(t: &mut [u64], m: u64, o: u64, leaf: usize, c: u64, spent: &mut u64
 // The block that starts exactly at o is no longer live.
 pub fn give_block(t: &mut [u64], m: u64, o: u64, spent: &mut u64) -> Reply
     requires { ⌜ o < arena m ⌝ ∗ ⌜ m ≤ mMost ⌝ ∗ ⌜ length (now t) ≡ need m ⌝ ∗ ⌜ now spent < 2 ^ 20 ⌝ }
-    ensures { λ r. ⌜ Gave m (2 * m + 5) o (now (t .entry)) (now (t .exit)) r (now (spent .entry)) (now (spent .exit)) ⌝ }
+    ensures { λ r. ⌜ Gave m (2 * m + 4) o (now (t .entry)) (now (t .exit)) r (now (spent .entry)) (now (spent .exit)) ⌝ }
 {
     let leaf = leaf_at(m, o);
     let spot = locate(t, m, leaf, &mut *spent);

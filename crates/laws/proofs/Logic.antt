@@ -84,10 +84,26 @@ module _ {A : Type 0} where
   orElse-none none = refl
   orElse-none (some a) = refl
 
+  pub has-some : (o : Option A) → has o ≡ true → (a : A) × (o ≡ some a)
+  unfolding has
+  has-some none e = contra e refl
+  has-some (some a) e = (a, refl)
+
   pub has-not : (o : Option A) → has o ≡ false → o ≡ none
   unfolding has
   has-not none e = refl
   has-not (some a) e = contra refl e
+
+  -- where the first search found something, it decides; where it did not, the second does
+  pub orElse-first : (x y : Option A) → has x ≡ true → orElse x y ≡ x
+  unfolding has orElse
+  orElse-first none y e = contra e refl
+  orElse-first (some a) y e = refl
+
+  pub orElse-second : (x y : Option A) → has x ≡ false → orElse x y ≡ y
+  unfolding has orElse
+  orElse-second none y e = refl
+  orElse-second (some a) y e = contra refl e
 
   pub has-or : (x y : Option A) → has (orElse x y) ≡ has x || has y
   unfolding has orElse

@@ -2,7 +2,7 @@
 use mathlib.Core.Path.{_≡_}
 use mathlib.Core.Bool.{true}
 use mathlib.Core.List.{List, [], _++_, _∷_}
-use Prim.Native.Nat.{_*_, _+_, _<_, ℕ}
+use Prim.Native.Nat.{_*_, _+_, _<_, max, ℕ}
 use lib.ListN.{drop, length, take as firstOf}
 use Rattle.arena.specs.Promises.{Right, Started, atOnce}
 use Rattle.meaning.specs.Answers.{Answer, Request, checkUp, figures, giveBack, refused, start, take, which}
@@ -17,8 +17,8 @@ use Rattle.sequence.specs.Numbers.{beginsWithStart, numbersOf, requestsO
 unfoldable pub costOf : ℕ → Request → ℕ
 costOf m start = need m
 costOf m (take n) = 3 * (m + 1) + 2
-costOf m (giveBack o) = 2 * (m + 1) + 3
-costOf m (which o) = m + 1 + 1
+costOf m (giveBack o) = 2 * (m + 1) + 2
+costOf m (which o) = 1 + max 1 m
 costOf m figures = 2 * need m
 costOf m checkUp = 2 * need m
 

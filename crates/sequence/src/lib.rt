@@ -131,7 +131,7 @@ pub fn serve(t: &mut [u64], m: u64, requests: &[u64], answers: &mut [u64]) -> Se
     let n = requests.len();
     let mut spent: u64 = 0;
     let mut i: usize = 0;
-    while i < n {
+    while i + 1 < n {
         let counted = serve_one(t, m, number_at(requests, i), number_at(requests, i + 1));
         store_reply(answers, 2 * i, counted.reply);
         spent = spent + counted.spent;

@@ -1,35 +1,23 @@
 -- `take_slot` and `take_block`: which part of take answers, and that its block is the one to be had. Assumes nothing.
 use mathlib.Core.Path.{_∙_, _≡_, ap, refl, sym}
 use mathlib.Core.Bool.{Bool, false, true}
-use mathlib.Core.Option.{Option, none, some}
+use mathlib.Core.Option.{some}
 use mathlib.Core.List.{List}
 use Prim.Native.Nat.{_*_, _+_, _-_, _<_, _^_, _≤_, ℕ}
 use borrow.Author.Tests.{le-leb, lt-leb}
 use lib.ListN.{getD}
 use native.Mathlib.Omega.{arith}
 use Rattle.cells.specs.Cell.{hasRoomFor, hasSize}
-use Rattle.laws.proofs.Logic.{contra, has-not}
+use Rattle.laws.proofs.Logic.{has-not, orElse-first, orElse-second}
 use Rattle.meaning.specs.Answers.{freshPlace, kFor, largePlace, place, refused, servedPlace, sizeFor, sizeGiven, smallPlace}
 use Rattle.meaning.specs.Blocks.{Live, pageBytes, sizeCount, small, smallMost}
-use Rattle.meaning.specs.Search.{bind, has, orElse, orZero}
+use Rattle.meaning.specs.Search.{bind, has, orZero}
 use Rattle.table.proofs.FoundSlot.{root-fresh, root-size}
 use Rattle.table.specs.Table.{Stands}
 use Rattle.terms.specs.Reply.{asAnswer}
 use Rattle.terms.specs.declared.Reply.{Reply}
 use Rattle.take.proofs.Endings.{nothing-taken, took-as}
 use Rattle.take.specs.Took.{Took}
-
--- where the first search found something, it decides
-or-first : {A : Type 0} (x y : Option A) → has x ≡ true → orElse x y ≡ x
-unfolding has orElse
-or-first none y e = contra e refl
-or-first (some a) y e = refl
-
--- where it did not, the second does
-or-second : {A : Type 0} (x y : Option A) → has x ≡ false → orElse x y ≡ y
-unfolding has orElse
-or-second none y e = refl
-or-second (some a) y e = contra refl e
 
 -- ---- a small block
 
@@ -45,13 +33,13 @@ module _ (m c root most s s₁ : ℕ) (t : List ℕ) (served : Bool) (r : Reply)
   -- some page serves the size and has a slot
   pub slot-served : (s′ : ℕ) (t′ : List ℕ) → served ≡ true → Took m (3 * m + 4) (small c) (λ L. servedPlace m L c) t t′ r s₁ s′ → Took m most (small c) (λ L. smallPlace m L c) t t′ r s s′
   unfolding smallPlace
-  slot-served s′ t′ p part = took-as part (omega arith) refl (λ L st. or-first (servedPlace m L c) (freshPlace m L c) (sym (has-served L st) ∙ p))
+  slot-served s′ t′ p part = took-as part (omega arith) refl (λ L st. orElse-first (servedPlace m L c) (freshPlace m L c) (sym (has-served L st) ∙ p))
 
   module _ (fresh : Bool) (unserved : served ≡ false) (test-room : fresh ≡ hasRoomFor 0 root) where
     -- so only a free page will do
     left : (L : Live) → Stands m L t → smallPlace m L c ≡ freshPlace m L c
     unfolding smallPlace
-    left L st = or-second (servedPlace m L c) (freshPlace m L c) (sym (has-served L st) ∙ unserved)
+    left L st = orElse-second (servedPlace m L c) (freshPlace m L c) (sym (has-served L st) ∙ unserved)
 
     -- some page is free
     pub slot-fresh : (s′ : ℕ) (t′ : List ℕ) → Took m (3 * m + 3) (small c) (λ L. freshPlace m L c) t t′ r s₁ s′ → Took m most (small c) (λ L. smallPlace m L c) t t′ r s s′

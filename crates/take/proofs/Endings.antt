@@ -1,12 +1,10 @@
 -- What a part of take ensures, by how it ends: nothing is taken, a block is taken, or another part has answered. Assumes nothing.
-use mathlib.Core.Path.{_∙_, _≡_, ap, refl, sym}
-use mathlib.Core.Bool.{true}
+use mathlib.Core.Path.{_∙_, _≡_, ap, sym}
 use mathlib.Core.Option.{Option, none, some}
 use mathlib.Core.List.{List}
 use Prim.Native.Nat.{_+_, _≤_, ℕ}
 use lib.ListN.{length}
 use native.Mathlib.Omega.{arith}
-use Rattle.laws.proofs.Logic.{contra}
 use Rattle.meaning.specs.Answers.{Answer, insert, insertSome, offset, orRefuse, refused, three}
 use Rattle.meaning.specs.Blocks.{Block, Live, arena}
 use Rattle.meaning.specs.Search.{has}
@@ -14,12 +12,6 @@ use Rattle.table.specs.Table.{Stands}
 use Rattle.terms.specs.Reply.{asAnswer}
 use Rattle.terms.specs.declared.Reply.{Reply}
 use Rattle.take.specs.Took.{Took, nothing, taken}
-
--- what a search found, where it found something
-pub has-some : {A : Type 0} (o : Option A) → has o ≡ true → (a : A) × (o ≡ some a)
-unfolding has
-has-some none e = contra e refl
-has-some (some a) e = (a, refl)
 
 module _ (m most size : ℕ) (place : Live → Option Block) (t t′ : List ℕ) (r : Reply) (s s′ : ℕ) (cost : s′ ≤ s + most) where
   -- nothing is taken

@@ -9,6 +9,7 @@ use lib.ListN.{getD}
 use native.Mathlib.Omega.{arith}
 use Rattle.cells.specs.Cell.{hasRoomFor, packed}
 use Rattle.digits.specs.Digits.{ones}
+use Rattle.laws.proofs.Logic.{has-some}
 use Rattle.meaning.specs.Answers.{freshPlace, refused, three}
 use Rattle.meaning.specs.Blocks.{Block, Live, arena, sizeCount, slot, slots, small}
 use Rattle.table.proofs.ChangedPages.{first-not-full, fresh-taken}
@@ -18,7 +19,7 @@ use Rattle.terms.specs.Reply.{asAnswer}
 use Rattle.terms.specs.declared.Reply.{Reply}
 use Rattle.walks.proofs.Wants.{down-room}
 use Rattle.walks.specs.Posts.{Descended, LeafPut}
-use Rattle.take.proofs.Endings.{block-taken, has-some, nothing-taken}
+use Rattle.take.proofs.Endings.{block-taken, nothing-taken}
 use Rattle.take.specs.Took.{Took}
 
 module _ (m c w cell vacant s s₁ s₂ : ℕ) (t : List ℕ) (r : Reply) (c< : c < sizeCount) (room : hasRoomFor 0 (getD t 1 0) ≡ true)

@@ -7,7 +7,7 @@ use Prim.Native.Nat.{_*_, _+_, _-_, _^_, _≤_, ℕ}
 use lib.ListN.{getD}
 use native.Mathlib.Omega.{arith}
 use Rattle.cells.specs.Cell.{hasRoomFor, packed, wholeTag}
-use Rattle.laws.proofs.Logic.{has-not}
+use Rattle.laws.proofs.Logic.{has-not, has-some}
 use Rattle.meaning.specs.Answers.{clear, largePlace, refused, three}
 use Rattle.meaning.specs.Blocks.{Block, Live, arena, large, pageBytes}
 use Rattle.meaning.specs.Search.{has}
@@ -19,7 +19,7 @@ use Rattle.terms.specs.Reply.{asAnswer}
 use Rattle.terms.specs.declared.Reply.{Reply}
 use Rattle.walks.proofs.Wants.{down-room}
 use Rattle.walks.specs.Posts.{Descended, NodePut}
-use Rattle.take.proofs.Endings.{block-taken, has-some, nothing-taken}
+use Rattle.take.proofs.Endings.{block-taken, nothing-taken}
 use Rattle.take.specs.Took.{Took}
 
 module _ (m k root s s₁ : ℕ) (t : List ℕ) (room : Bool) (r : Reply) (k≤ : k ≤ m) (read : root ≡ getD t 1 0) (once : s₁ ≡ s + 1) (test : room ≡ hasRoomFor k root) where

@@ -1,18 +1,16 @@
 -- `take_served`: the way down by the size, and a slot of the page that it gets to. Assumes nothing.
 use mathlib.Core.Path.{_∙_, _≡_, ap, refl, subst, sym}
-use mathlib.Core.Logic.{_⊎_, inl, inr, ⊎-elim}
 use mathlib.Core.Bool.{cond, true}
 use mathlib.Core.Option.{some}
 use mathlib.Core.List.{List}
 use Prim.Native.Nat.{_*_, _+_, _-_, _<_, _^_, _≤_, ℕ}
 use lib.Dec.{eqb}
 use lib.ListN.{getD}
-use native.Mathlib.Nat.{eq-or-lt-of-le}
 use native.Mathlib.Omega.{arith}
 use Rattle.cells.specs.Cell.{hasSize, packed, roomSpan, tagIn}
-use Rattle.digits.proofs.Digits.{bit-zero}
+use Rattle.digits.proofs.Digits.{bit-zero, first-one}
 use Rattle.digits.specs.Digits.{First, bitAt}
-use Rattle.laws.proofs.Logic.{contra, le-or-lt}
+use Rattle.laws.proofs.Logic.{contra, has-some}
 use Rattle.meaning.specs.Answers.{clear, refused, servedPlace, three}
 use Rattle.meaning.specs.Blocks.{Block, Live, arena, sizeCount, slot, slots, small}
 use Rattle.table.proofs.ChangedPages.{slot-taken}
@@ -22,16 +20,8 @@ use Rattle.terms.specs.Reply.{asAnswer}
 use Rattle.terms.specs.declared.Reply.{Reply}
 use Rattle.walks.proofs.Wants.{down-size}
 use Rattle.walks.specs.Posts.{Descended, LeafPut}
-use Rattle.take.proofs.Endings.{block-taken, has-some, nothing-taken}
+use Rattle.take.proofs.Endings.{block-taken, nothing-taken}
 use Rattle.take.specs.Took.{Took}
-
--- a number has one lowest digit
-first-one : (bits i j : ℕ) → First bits i → First bits j → i ≡ j
-first-one bits i j a b = go (le-or-lt i j)
-  where
-    go : (i ≤ j) ⊎ (j < i) → i ≡ j
-    go (inl l) = ⊎-elim (λ (e : i ≡ j). e) (λ (e : i < j). contra (a .there) (b .first i e)) (eq-or-lt-of-le l)
-    go (inr l) = contra (b .there) (a .first j l)
 
 module _ (m c w cell spot bits s s₁ s₂ s₃ : ℕ) (t : List ℕ) (r : Reply) (c< : c < sizeCount) (size : hasSize c (getD t 1 0) ≡ true)
     (way : Descended m (roomSpan + c) t w s s₁) (leaf : cell ≡ getD t w 0) (once : s₂ ≡ s₁ + 1) (map : spot ≡ w + 2 ^ m) (slots-there : bits ≡ getD t spot 0) (again : s₃ ≡ s₂ + 1) where

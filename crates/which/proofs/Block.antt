@@ -2,7 +2,7 @@
 use mathlib.Core.Path.{_∙_, _≡_, ap, refl, sym}
 use mathlib.Core.Logic.{_≢_}
 use mathlib.Core.List.{List}
-use Prim.Native.Nat.{_*_, _+_, _-_, _/_, _<_, _^_, _≤_, suc, ℕ}
+use Prim.Native.Nat.{_*_, _+_, _-_, _/_, _<_, _^_, _≤_, max, suc, ℕ}
 use lib.ListN.{getD}
 use lib.Pow.{pow-pos}
 use native.Mathlib.Nat.{add-mul, div-mul-le-self, lt-div-mul-add}
@@ -56,19 +56,19 @@ module _ (m o leaf s s₁ : ℕ) (t : List ℕ) (spot : Tagged) (r : Reply) (ins
   node = ap (above (spot .height)) page
 
   -- no node has a tag
-  pub block-none : m < spot .height → asAnswer r ≡ refused 4 → Told m (m + 2) o t r s s₁
-  block-none high says = told-nothing m (m + 2) o s s₁ t r (omega (arith, up .cost-all)) says (λ L st. located-none st o (spot .height) (above (spot .height) leaf) inside way node high)
+  pub block-none : m < spot .height → asAnswer r ≡ refused 4 → Told m (1 + max 1 m) o t r s s₁
+  block-none high says = told-nothing m (1 + max 1 m) o s s₁ t r (omega (arith, up .cost-all)) says (λ L st. located-none st o (spot .height) (above (spot .height) leaf) inside way node high)
 
   module _ (low : spot .height ≤ m) where
     -- the node is a large block
     pub block-large : (v start size : ℕ) → spot .tag ≡ wholeTag → v ≡ above (spot .height) leaf
         → start ≡ large (spot .height) (v - 2 ^ (m - spot .height)) .start → start + pageBytes * 2 ^ spot .height ≤ arena m
-        → size ≡ pageBytes * 2 ^ spot .height → asAnswer r ≡ three start size 0 → Told m (m + 2) o t r s s₁
+        → size ≡ pageBytes * 2 ^ spot .height → asAnswer r ≡ three start size 0 → Told m (1 + max 1 m) o t r s s₁
     block-large v start size whole-tag v-above starts ends sized says =
         let v-node : v ≡ above (spot .height) (2 ^ m + o / pageBytes) = v-above ∙ node in
         let tag : tagIn (getD t v 0) ≡ wholeTag = ap (λ (x : ℕ). tagIn (getD t x 0)) v-above ∙ (sym (up .tag low) ∙ whole-tag) in
         let byte = around m (spot .height) o v inside low v-node in
-        told-block m (m + 2) o s s₁ t r (omega (arith, up .cost-all)) (large (spot .height) (v - 2 ^ (m - spot .height))) (says ∙ rw (starts, sized) refl)
+        told-block m (1 + max 1 m) o s s₁ t r (omega (arith, up .cost-all)) (large (spot .height) (v - 2 ^ (m - spot .height))) (says ∙ rw (starts, sized) refl)
         (byte .0) (byte .1) (omega arith) (λ L st. located-large st o (spot .height) v inside way v-node low tag)
 
     module _ (other-tag : spot .tag ≢ wholeTag) where
@@ -79,8 +79,8 @@ module _ (m o leaf s s₁ : ℕ) (t : List ℕ) (spot : Tagged) (r : Reply) (ins
           (omega (arith, up .tag low, tag-some m leaf s s₁ t spot up low)) (rw (sym (up .tag low)) other-tag)
 
       -- a node above the leaves, or a tag that is no size's: no table that stands for L has it
-      pub block-high : spot .height ≢ 0 → asAnswer r ≡ refused 4 → Told m (m + 2) o t r s s₁
-      block-high high says = told-nothing m (m + 2) o s s₁ t r (omega (arith, up .cost-all)) says (λ L st. absurd (high (cut-page L st .leaf)))
+      pub block-high : spot .height ≢ 0 → asAnswer r ≡ refused 4 → Told m (1 + max 1 m) o t r s s₁
+      block-high high says = told-nothing m (1 + max 1 m) o s s₁ t r (omega (arith, up .cost-all)) says (λ L st. absurd (high (cut-page L st .leaf)))
 
-      pub block-no-size : sizeCount < spot .tag → asAnswer r ≡ refused 4 → Told m (m + 2) o t r s s₁
-      block-no-size past says = told-nothing m (m + 2) o s s₁ t r (omega (arith, up .cost-all)) says (λ L st. absurd (omega (arith, cut-page L st .size)))
+      pub block-no-size : sizeCount < spot .tag → asAnswer r ≡ refused 4 → Told m (1 + max 1 m) o t r s s₁
+      block-no-size past says = told-nothing m (1 + max 1 m) o s s₁ t r (omega (arith, up .cost-all)) says (λ L st. absurd (omega (arith, cut-page L st .size)))

@@ -1,6 +1,6 @@
 // Which (document 01, section 3), on a table of exactly the cells needed and at an offset of the arena.
 ghost use mathlib.Core.Path.{_≡_};
-ghost use Prim.Native.Nat.{_*_, _+_, _-_, _/_, _<_, _≤_, _^_, suc};
+ghost use Prim.Native.Nat.{_*_, _+_, _-_, _/_, _<_, _≤_, _^_, max, suc};
 ghost use lib.ListN.{getD, length};
 ghost use Rattle.meaning.specs.Blocks.{arena, mMost, pageBytes, sizeCount};
 ghost use Rattle.cells.specs.Cell.{tagIn};
@@ -47,7 +47,7 @@ fn tell_slot(t: &[u64], m: u64, o: u64, leaf: usize, c: u64, spent: &mut u64) ->
 // The start and the size of the live block that holds the byte o.
 pub fn tell_block(t: &[u64], m: u64, o: u64, spent: &mut u64) -> Reply
     requires { ⌜ o < arena m ⌝ ∗ ⌜ m ≤ mMost ⌝ ∗ ⌜ length (now t) ≡ need m ⌝ ∗ ⌜ now spent < 2 ^ 20 ⌝ }
-    ensures { λ r. ⌜ Told m (m + 2) o (now (t .entry)) r (now (spent .entry)) (now (spent .exit)) ⌝ }
+    ensures { λ r. ⌜ Told m (1 + max 1 m) o (now (t .entry)) r (now (spent .entry)) (now (spent .exit)) ⌝ }
 {
     let leaf = leaf_at(m, o);
     let spot = locate(t, m, leaf, &mut *spent);

@@ -33,6 +33,9 @@ loop-holds c =
     let e = sym (c .before .can-serve .ensures) ∙ not-false _ (c .if1 .left) in
     (refl, servable-parts _ _ e, going-start _ _ _ _)
 
+add-loop : tie.Need-add-loop Inv-loop μ-loop
+add-loop c = search needs
+
 number-at-requires : tie.Need-number-at-requires Inv-loop μ-loop
 number-at-requires c κs = search needs
 
@@ -83,7 +86,7 @@ returns-2 c =
     let e = sym (tested .before .can-serve .ensures) ∙ not-false _ (tested .if1 .left) in
     let all = last .inv .1 in
     let g = last .inv .2 in
-    let end = going-end all (omega arith) g in
+    let end = going-end all (omega (arith, all .whole, g .even)) g in
     (sym e, ((λ f. contra refl f), ((g .kept, g .long), (end .0, (λ _. end .1)))))
 
 pub serve-spec : {M : Type 1} → statement M
@@ -95,6 +98,7 @@ serve-spec =
     can-serve-requires
     returns
     loop-holds
+    add-loop
     number-at-requires
     add-number-at
     number-at-requires-2
