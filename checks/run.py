@@ -204,7 +204,21 @@ def worked_run_printed():
     return [] if numbers == [str(n) for n in range(1, 22)] and last[-3:] == ["8192", "8192", "0"] else run.stdout.split("\n") + run.stderr.split("\n")
 
 
-CHECKS = [claims_hold, claims_check_catches, layout_kept, no_holes, accesses_counted, access_check_catches, counts_kept, count_check_catches, model_tested, tests_catch, c_example_runs, c_interface_agrees, player_agrees, worked_run_printed]
+def readme_example_holds():
+    """README's worked example has the answers of the model and of the player; another answer, or no example, is seen."""
+    command = ["python3", "-B", "tests/readme.py", "./breatharena"]
+    text = (ROOT / "README.md").read_text()
+    wrong = says([*command, "README.md"])
+    for what, other in (("another answer", text.replace("`start: done`", "`start: refusal 6`")), ("no example", text.replace("## A worked example", "##"))):
+        with tempfile.NamedTemporaryFile("w", suffix=".md") as file:
+            file.write(other)
+            file.flush()
+            if subprocess.run([*command, file.name], cwd=ROOT, capture_output=True).returncode != 1:
+                wrong.append(f"{what} is not seen")
+    return wrong
+
+
+CHECKS = [claims_hold, claims_check_catches, layout_kept, no_holes, accesses_counted, access_check_catches, counts_kept, count_check_catches, model_tested, tests_catch, c_example_runs, c_interface_agrees, player_agrees, worked_run_printed, readme_example_holds]
 
 
 def main():

@@ -36,22 +36,24 @@ enum {
 /* The cells that a table for m needs; 0 where m is refused. */
 uint64_t ba_table_cells(uint64_t m);
 
-/* The table stands for an arena with no live block from now on, whatever it held. */
+/* The table stands for an arena with no live block from now on, whatever it held. Stores each needed cell once, by memset. */
 uint64_t ba_start(uint64_t *table, size_t cells, uint64_t m);
 
-/* Takes a block for n bytes, always the lowest that is to be had; its offset is handed back. */
+/* Takes a block for n bytes, always the lowest that is to be had; its offset is handed back. At most 3(m + 1) + 2 accesses to the table. */
 uint64_t ba_take(uint64_t *table, size_t cells, uint64_t m, uint64_t n, uint64_t *offset);
 
-/* Gives back the block that starts exactly at the offset. */
+/* Gives back the block that starts exactly at the offset. At most 2(m + 1) + 2 accesses to the table. */
 uint64_t ba_give_back(uint64_t *table, size_t cells, uint64_t m, uint64_t offset);
 
-/* The start and the size of the live block that holds the byte at the offset. */
+/* The start and the size of the live block that holds the byte at the offset. At most m + 1 accesses to the table, 2 for m = 0. */
 uint64_t ba_which(const uint64_t *table, size_t cells, uint64_t m, uint64_t offset, uint64_t *start, uint64_t *size);
 
-/* The bytes of the live blocks, the bytes of the pages that aren't free, and the size of the largest block of free pages. */
+/* The bytes of the live blocks, the bytes of the pages that aren't free, and the size of the largest block of free pages. At most
+ * 6 * 2^m accesses to the table.
+ */
 uint64_t ba_figures(const uint64_t *table, size_t cells, uint64_t m, uint64_t *live, uint64_t *held, uint64_t *room);
 
-/* Whether the table is sound: 1 or 0. */
+/* Whether the table is sound: 1 or 0. At most 6 * 2^m accesses to the table. */
 uint64_t ba_check_up(const uint64_t *table, size_t cells, uint64_t m, uint64_t *sound);
 
 #ifdef __cplusplus

@@ -11,7 +11,7 @@ static uint64_t table[CELLS];
 /* the arena itself, aligned to its whole size; the allocator never touches it */
 static _Alignas(1024 << M) unsigned char arena[1024 << M];
 
-/* Takes a buffer, or ends the program: a real unit would raise its own fault here. */
+/* Takes a buffer; NULL where it is refused. A real unit would raise its own fault here. */
 static unsigned char *buffer_for(uint64_t bytes)
 {
     uint64_t offset;

@@ -13,6 +13,12 @@ unfolding answers afterAll
 answers-append m L [] y = refl
 answers-append m L (r ∷ x) y = ap (λ (z : List Answer). answer m L r ∷ z) (answers-append m (after m L r) x y)
 
+-- what is live after a run and another one
+pub afterAll-append : (m : ℕ) (L : Live) (x y : List Request) → afterAll m L (x ++ y) ≡ afterAll m (afterAll m L x) y
+unfolding afterAll
+afterAll-append m L [] y = refl
+afterAll-append m L (r ∷ x) y = afterAll-append m (after m L r) x y
+
 -- two histories from no live block that leave the same live blocks are followed by the same answers, and leave the same again
 pub same-future : (m : ℕ) (x y rest : List Request) → afterAll m [] x ≡ afterAll m [] y → (answers m (afterAll m [] x) rest ≡ answers m (afterAll m [] y) rest) × (afterAll m (afterAll m [] x) rest ≡ afterAll m (afterAll m [] y) rest)
 same-future m x y rest e = (ap (λ (L : Live). answers m L rest) e, ap (λ (L : Live). afterAll m L rest) e)

@@ -11,9 +11,9 @@ use Rattle.terms.specs.declared.Reply.{Reply}
 use Rattle.sequence.proofs.Known.{Servable}
 use Rattle.sequence.proofs.Numbers.{cost-more, first-length, two-more}
 use Rattle.sequence.proofs.One.{kept-on, kept-same}
-use Rattle.sequence.proofs.Serving.{serves-more, serves-none}
+use Rattle.sequence.proofs.Serving.{in-turn-more, in-turn-none, in-turn-serves}
 use Rattle.sequence.specs.Numbers.{asRequest, requestsOf}
-use Rattle.sequence.specs.Serving.{Serves, ServesOne, Stored, costAll, costMost, costOf}
+use Rattle.sequence.specs.Serving.{InTurn, Promised, Serves, Stored, costAll, costMost, costOf}
 
 -- t₀ is the table at first, t and a the table and the answers when the requests up to i have been served
 pub record Going (m : ℕ) (requests : List ℕ) (places : ℕ) (t₀ t a : List ℕ) (i spent : ℕ) : Type 0 where
@@ -23,15 +23,15 @@ pub record Going (m : ℕ) (requests : List ℕ) (places : ℕ) (t₀ t a : List
   pub kept : Kept m t₀ t
   pub within : spent ≤ costAll m (requestsOf (firstOf i requests))
   pub few : spent ≤ costMost * i
-  pub serves : Serves m (firstOf i requests) t₀ t (firstOf (2 * i) a)
+  pub in-turn : InTurn m (firstOf i requests) t₀ t (firstOf (2 * i) a)
 
 -- before the first request
 pub going-start : (m : ℕ) (requests t a : List ℕ) → Going m requests (length a) t t a 0 0
-going-start m requests t a = record { even = refl; most = omega arith; long = refl; kept = kept-same m t; within = omega arith; few = omega arith; serves = serves-none m t }
+going-start m requests t a = record { even = refl; most = omega arith; long = refl; kept = kept-same m t; within = omega arith; few = omega arith; in-turn = in-turn-none m t }
 
 -- one request more
-pub going-more : {m : ℕ} {requests : List ℕ} {places : ℕ} {t₀ t a t′ a′ : List ℕ} {i spent : ℕ} {r : Reply} (k n c : ℕ) → k ≡ getD requests i 0 → n ≡ getD requests (i + 1) 0 → Servable requests places → i < length requests → Going m requests places t₀ t a i spent → Kept m t t′ → c ≤ costOf m (asRequest k n) → c ≤ costMost → ServesOne m (asRequest k n) t t′ r → Stored a a′ (2 * i) (asAnswer r) → Going m requests places t₀ t′ a′ (i + 2) (spent + c)
-going-more {m} {requests} {places} {t₀} {t} {a} {t′} {a′} {i} {spent} {r} k n c ek en all low g kept cheap few one stored =
+pub going-more : {m : ℕ} {requests : List ℕ} {places : ℕ} {t₀ t a t′ a′ : List ℕ} {i spent : ℕ} {r : Reply} (k n c : ℕ) → k ≡ getD requests i 0 → n ≡ getD requests (i + 1) 0 → Servable requests places → i < length requests → Going m requests places t₀ t a i spent → Promised m (asRequest k n) t t′ r → c ≤ costOf m (asRequest k n) → c ≤ costMost → Stored a a′ (2 * i) (asAnswer r) → Going m requests places t₀ t′ a′ (i + 2) (spent + c)
+going-more {m} {requests} {places} {t₀} {t} {a} {t′} {a′} {i} {spent} {r} k n c ek en all low g one cheap few stored =
     let two : i + 2 ≤ length requests = omega (arith, all .whole, g .even) in
     let place : 2 * (i + 2) ≡ 2 * i + 4 = omega arith in
     let lr : length (firstOf i requests) ≡ i = first-length i requests (g .most) in
@@ -40,15 +40,16 @@ going-more {m} {requests} {places} {t₀} {t} {a} {t′} {a′} {i} {spent} {r} 
       even = omega (arith, g .even);
       most = two;
       long = stored .long ∙ g .long;
-      kept = kept-on (g .kept) kept;
+      kept = kept-on (g .kept) (one .kept);
       within = rw (cost-more m i requests (g .even) two, ← ek, ← en) (omega arith);
       few = omega arith;
-      serves = rw (two-more i requests two, place, stored .written, ← ek, ← en) (serves-more t₀ t k n (g .kept .long) one (firstOf i requests) (firstOf (2 * i) a) (omega (arith, g .even)) (omega arith) (g .serves));
+      in-turn = rw (two-more i requests two, place, stored .written, ← ek, ← en) (in-turn-more k n (firstOf i requests) (firstOf (2 * i) a) (omega (arith, g .even)) (g .in-turn) one);
     }
 
 -- after the last request
-pub going-end : {m : ℕ} {requests : List ℕ} {places : ℕ} {t₀ t a : List ℕ} {i spent : ℕ} → Servable requests places → length requests ≤ i → Going m requests places t₀ t a i spent → (spent ≤ costAll m (requestsOf requests)) × Serves m requests t₀ t a
+pub going-end : {m : ℕ} {requests : List ℕ} {places : ℕ} {t₀ t a : List ℕ} {i spent : ℕ} → Servable requests places → length requests ≤ i → Going m requests places t₀ t a i spent → (spent ≤ costAll m (requestsOf requests)) × (Serves m requests t₀ t a × InTurn m requests t₀ t a)
 going-end {m} {requests} {places} {t₀} {t} {a} {i} {spent} all high g =
     let e = take-all i requests high in
     let f = take-all (2 * i) a (omega (arith, all .fits, g .long)) in
-    (rw e at (g .within), rw (e, f) at (g .serves))
+    let run : InTurn m requests t₀ t a = rw (e, f) at (g .in-turn) in
+    (rw e at (g .within), (in-turn-serves requests (all .whole) run, run))

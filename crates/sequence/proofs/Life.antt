@@ -8,7 +8,7 @@ use lib.ListN.{length, take as firstOf}
 use Rattle.arena.specs.Promises.{Exact, atOnce}
 use Rattle.laws.proofs.Apart.{Disjoint, live-aligned, live-apart, live-inside}
 use Rattle.laws.proofs.Exactly.{Given, Taken, give-back-removes, take-adds}
-use Rattle.laws.proofs.Histories.{always-allowed}
+use Rattle.laws.proofs.Histories.{afterAll-append, always-allowed}
 use Rattle.laws.proofs.Refusals.{refused-only-if-none}
 use Rattle.meaning.specs.Answers.{Request, answer, checkUp, done, giveBack, offset, refused, sound, start, take}
 use Rattle.meaning.specs.Blocks.{Allowed, Block, Live, alignment, allowed-none, arena, ends, mMost}
@@ -19,7 +19,6 @@ use Rattle.table.specs.Table.{Stands, need}
 use Rattle.terms.specs.Reply.{asAnswer}
 use Rattle.terms.specs.declared.Reply.{Reply}
 use Rattle.sequence.proofs.Alike.{same-cells}
-use Rattle.sequence.proofs.Numbers.{afterAll-append}
 use Rattle.sequence.specs.Numbers.{beginsWithStart, requestsOf}
 use Rattle.sequence.specs.Serving.{Serves}
 

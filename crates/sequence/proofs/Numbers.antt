@@ -5,11 +5,9 @@ use Prim.Native.Nat.{_%_, _*_, _+_, _≤_, suc, zero, ℕ}
 use lib.ListN.{getD, length, length-take, take as firstOf}
 use native.Mathlib.Numerals.{add-one, add-two}
 use native.Mathlib.Omega.{arith}
-use Rattle.meaning.specs.Answers.{Answer, Request, after}
-use Rattle.meaning.specs.Blocks.{Live}
-use Rattle.meaning.specs.Runs.{afterAll}
+use Rattle.meaning.specs.Answers.{Answer, Request}
 use Rattle.sequence.specs.Numbers.{asRequest, numbersOf, requestsOf}
-use Rattle.sequence.specs.Serving.{allRefused, costAll, costOf}
+use Rattle.sequence.specs.Serving.{costAll, costOf}
 
 -- the requests of whole requests and of more numbers
 pub requestsOf-append : (x y : List ℕ) → length x % 2 ≡ 0 → requestsOf (x ++ y) ≡ requestsOf x ++ requestsOf y
@@ -17,12 +15,6 @@ unfolding requestsOf
 requestsOf-append [] y e = refl
 requestsOf-append (k ∷ []) y e = absurd (omega arith)
 requestsOf-append (k ∷ n ∷ x) y e = ap (λ (z : List Request). asRequest k n ∷ z) (requestsOf-append x y (omega arith))
-
--- what is live after a run and another one
-pub afterAll-append : (m : ℕ) (L : Live) (x y : List Request) → afterAll m L (x ++ y) ≡ afterAll m (afterAll m L x) y
-unfolding afterAll
-afterAll-append m L [] y = refl
-afterAll-append m L (r ∷ x) y = afterAll-append m (after m L r) x y
 
 -- costs add up
 pub costAll-append : (m : ℕ) (x y : List Request) → costAll m (x ++ y) ≡ costAll m x + costAll m y
@@ -35,18 +27,6 @@ pub numbersOf-append : (x y : List Answer) → numbersOf (x ++ y) ≡ numbersOf 
 unfolding numbersOf
 numbersOf-append [] y = refl
 numbersOf-append (a ∷ x) y = ap (λ (z : List ℕ). a .refusal ∷ a .first ∷ a .second ∷ a .third ∷ z) (numbersOf-append x y)
-
--- four numbers for each answer
-pub numbersOf-length : (x : List Answer) → length (numbersOf x) ≡ 4 * length x
-unfolding numbersOf
-numbersOf-length [] = refl
-numbersOf-length (a ∷ x) = omega (arith, numbersOf-length x)
-
--- refusals of requests and of more requests
-pub allRefused-append : (n : ℕ) (x y : List Request) → allRefused n (x ++ y) ≡ allRefused n x ++ allRefused n y
-unfolding allRefused
-allRefused-append n [] y = refl
-allRefused-append n (r ∷ x) y = rw (allRefused-append n x y)
 
 -- ---- a list up to a place, and the next two numbers
 

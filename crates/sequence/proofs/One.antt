@@ -1,5 +1,5 @@
 -- What the arena promises of each request is what serving one request promises. Assumes nothing.
-use mathlib.Core.Path.{_∙_, _≡_, ap, refl}
+use mathlib.Core.Path.{_∙_, _≡_, ap, refl, sym}
 use mathlib.Core.Bool.{Bool, cond, false, true}
 use mathlib.Core.List.{List}
 use Prim.Native.Nat.{_<_, _≤_, suc, zero, ℕ}
@@ -9,14 +9,13 @@ use lib.ListN.{length}
 use lib.Pow.{pow-mono}
 use native.Mathlib.Omega.{arith}
 use Rattle.arena.specs.Promises.{Exact, InOrder, Kept, RefusalAlone, Right, Started, atOnce}
-use Rattle.laws.proofs.Logic.{contra}
 use Rattle.meaning.specs.Answers.{Answer, Request, after, answer, badArgument, checkUp, figures, giveBack, refused, refusedAtOnce, start, take, which}
 use Rattle.meaning.specs.Blocks.{Live, mMost}
 use Rattle.table.specs.Table.{Stands, need}
 use Rattle.terms.specs.Reply.{asAnswer}
 use Rattle.terms.specs.declared.Reply.{Reply}
 use Rattle.sequence.specs.Numbers.{asRequest}
-use Rattle.sequence.specs.Serving.{ServesOne, costMost, costOf}
+use Rattle.sequence.specs.Serving.{Own, Promised, costMost, costOf}
 
 -- where even start is refused, every request is, with the same number
 start-refused : (enough : Bool) (m : ℕ) (q : Request) → 0 < refusedAtOnce enough m start → refusedAtOnce enough m q ≡ refusedAtOnce enough m start
@@ -39,39 +38,55 @@ unfolding refusedAtOnce
 large-m {m} t q l = rw (lt-ltb mMost m l) refl
 
 -- a request is refused where even start is
-refuses : {m : ℕ} {q : Request} {t t′ : List ℕ} {r : Reply} → InOrder m q t r → RefusalAlone t t′ r → 0 < atOnce t m start → (asAnswer r ≡ refused (atOnce t m start)) × (t′ ≡ t)
+pub refuses : {m : ℕ} {q : Request} {t t′ : List ℕ} {r : Reply} → InOrder m q t r → RefusalAlone t t′ r → 0 < atOnce t m start → (asAnswer r ≡ refused (atOnce t m start)) × (t′ ≡ t)
 refuses {m} {q} {t} {t′} {r} o a p =
     let e = start-refused (leb (need m) (length t)) m q p in
     let f = o .at-once (rw e p) in
     let n : r .refusal ≡ atOnce t m q = ap (λ (x : Answer). x .refusal) f in
     (rw e at f, a .cells (rw (n, e) p))
 
--- start, whatever the table held
-pub one-start : {m : ℕ} {t t′ : List ℕ} {r : Reply} → InOrder m start t r → RefusalAlone t t′ r → Started m t t′ r → ServesOne m start t t′ r
+-- nothing changed is kept
+pub kept-same : (m : ℕ) (t : List ℕ) → Kept m t t
+kept-same m t = record { long = refl; beyond = refl }
+
+-- start, whatever the table held, is right
+pub start-right : {m : ℕ} {t t′ : List ℕ} {r : Reply} → Started m t t′ r → Right m start t t′ r
 unfolding answer after
-one-start o a f = record { right = λ L s. f (stands-starts s); from-start = λ e. f; refusing = refuses o a }
+start-right f L s = f (stands-starts s)
 
--- whether a request is start
-abbrev pub isStart : Request → Bool
-isStart start = true
-isStart figures = false
-isStart checkUp = false
-isStart (take n) = false
-isStart (giveBack o) = false
-isStart (which o) = false
-
--- take, give back, which and figures
-pub one-other : {m : ℕ} (q : Request) {t t′ : List ℕ} {r : Reply} → isStart q ≡ false → InOrder m q t r → RefusalAlone t t′ r → Right m q t t′ r → ServesOne m q t t′ r
-one-other q n o a f = record { right = f; from-start = λ e. contra (ap isStart e) n; refusing = refuses o a }
-
--- check-up
-pub one-check-up : {m : ℕ} {t : List ℕ} {r : Reply} → InOrder m checkUp t r → RefusalAlone t t r → Exact m t r → ServesOne m checkUp t t r
+-- check-up is right
+pub check-up-right : {m : ℕ} {t : List ℕ} {r : Reply} → Exact m t r → Right m checkUp t t r
 unfolding answer after
-one-check-up {m} {t} {r} o a x = one-other checkUp refl o a (λ L s. (x .is-sound L s, s))
+check-up-right x L s = (x .is-sound L s, s)
 
 -- m too large
-pub one-large-m : {m : ℕ} (q : Request) (t : List ℕ) {r : Reply} → mMost < m → asAnswer r ≡ refused 6 → ServesOne m q t t r
-one-large-m {m} q t {r} l e = record { right = λ L s. absurd (omega (arith, s .small-m)); from-start = λ _ o. absurd (omega (arith, large-m t start l)); refusing = λ p. (rw (large-m t start l) e, refl) }
+module _ {m : ℕ} (t : List ℕ) {r : Reply} (large : mMost < m) (e : asAnswer r ≡ refused 6) where
+  six : r .refusal ≡ 6
+  six = ap (λ (x : Answer). x .refusal) e
+
+  own-large-m : (q : Request) → Own m q t t r
+  own-large-m start = λ o. absurd (omega (arith, large-m t start large))
+  own-large-m (take n) = λ z. absurd (omega (arith, six))
+  own-large-m (giveBack o) = record {}
+  own-large-m (which o) = (record { from = λ z. absurd (omega (arith, six)); to = λ z. absurd (omega (arith, six)); inside = λ z. absurd (omega (arith, six)) }, refl)
+  own-large-m figures = refl
+  own-large-m checkUp = (
+    record {
+      verdict = λ o. absurd (omega (arith, large-m t checkUp large));
+      says-sound = λ s. absurd (let z : 6 ≡ 0 = ap (λ (x : Answer). x .refusal) (sym e ∙ s) in omega arith);
+      is-sound = λ L s. absurd (omega (arith, s .small-m));
+    },
+    refl,
+  )
+
+  pub one-large-m : (q : Request) → Promised m q t t r
+  one-large-m q = record {
+    in-order = record { at-once = λ z. rw (large-m t q large) e; or-later = λ z. absurd (omega (arith, large-m t q large)) };
+    alone = record { values = λ z. e ∙ ap refused (sym six); cells = λ z. refl };
+    kept = kept-same m t;
+    own = own-large-m q;
+    right = λ L s. absurd (omega (arith, s .small-m));
+  }
 
 -- no request costs much
 pub cost-most : {m : ℕ} (q : Request) → m ≤ mMost → costOf m q ≤ costMost
@@ -95,14 +110,10 @@ asked-check-up (suc (suc (suc zero))) n l = absurd (omega arith)
 asked-check-up (suc (suc (suc (suc zero)))) n l = absurd (omega arith)
 asked-check-up (suc (suc (suc (suc (suc k))))) n l = refl
 
--- nothing changed is kept
-pub kept-same : (m : ℕ) (t : List ℕ) → Kept m t t
-kept-same m t = record { long = refl; beyond = refl }
-
 -- what is kept twice is kept
 pub kept-on : {m : ℕ} {t₀ t t′ : List ℕ} → Kept m t₀ t → Kept m t t′ → Kept m t₀ t′
 kept-on p q = record { long = q .long ∙ p .long; beyond = q .beyond ∙ p .beyond }
 
 -- what is promised of a request is promised of its kind and argument, and it costs little
-pub one-of-kind : {m : ℕ} {q : Request} {t t′ : List ℕ} {r : Reply} (k n spent : ℕ) → asRequest k n ≡ q → m ≤ mMost → Kept m t t′ → spent ≤ costOf m q → ServesOne m q t t′ r → Kept m t t′ × ((spent ≤ costOf m (asRequest k n)) × ((spent ≤ costMost) × ServesOne m (asRequest k n) t t′ r))
-one-of-kind {m} {q} k n spent e l kept c one = rw e (kept, (c, (omega (arith, cost-most q l), one)))
+pub one-of-kind : {m : ℕ} {q : Request} {t t′ : List ℕ} {r : Reply} (k n spent : ℕ) → asRequest k n ≡ q → m ≤ mMost → spent ≤ costOf m q → Promised m q t t′ r → Promised m (asRequest k n) t t′ r × ((spent ≤ costOf m (asRequest k n)) × (spent ≤ costMost))
+one-of-kind {m} {q} k n spent e l c one = rw e (one, (c, omega (arith, cost-most q l)))

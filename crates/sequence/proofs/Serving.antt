@@ -1,65 +1,90 @@
--- One request more: what serving promises of some requests, and of the next one, it promises of both. Assumes nothing.
+-- Requests one by one: one more at the end, and what follows for the whole run. Assumes nothing.
 use mathlib.Core.Path.{_∙_, _≡_, ap, refl}
-use mathlib.Core.Bool.{true}
+use mathlib.Core.Bool.{Bool, false, true}
 use mathlib.Core.List.{List, [], _++_, _∷_}
-use Prim.Native.Nat.{_%_, _*_, _<_, ℕ}
+use Prim.Native.Nat.{_%_, _<_, ℕ}
 use borrow.Author.Tests.{eqb-true}
 use lib.ListN.{length}
 use native.Mathlib.Omega.{arith}
 use Rattle.arena.specs.Promises.{atOnce}
-use Rattle.laws.proofs.Histories.{answers-append}
 use Rattle.laws.proofs.Logic.{contra}
-use Rattle.meaning.specs.Answers.{Answer, Request, after, answer, start}
+use Rattle.meaning.specs.Answers.{Answer, Request, after, answer, checkUp, figures, giveBack, start, take, which}
 use Rattle.meaning.specs.Blocks.{Live}
 use Rattle.meaning.specs.Runs.{afterAll, answers}
 use Rattle.table.specs.Table.{Stands}
 use Rattle.terms.specs.Reply.{asAnswer}
 use Rattle.terms.specs.declared.Reply.{Reply}
-use Rattle.sequence.proofs.Numbers.{afterAll-append, allRefused-append, numbersOf-append, requestsOf-append}
+use Rattle.sequence.proofs.Numbers.{numbersOf-append, requestsOf-append}
+use Rattle.sequence.proofs.One.{refuses}
 use Rattle.sequence.specs.Numbers.{asRequest, beginsWithStart, numbersOf, requestsOf}
-use Rattle.sequence.specs.Serving.{RunFrom, Serves, ServesOne, allRefused}
+use Rattle.sequence.specs.Serving.{InTurn, OneByOne, Promised, Serves, allRefused, and-then, no-more}
 
--- before the first request nothing has happened
-pub serves-none : (m : ℕ) (t : List ℕ) → Serves m [] t t []
-unfolding requestsOf numbersOf answers afterAll beginsWithStart allRefused
-serves-none m t = record { right = λ L s. (refl, s); from-start = λ b o. contra b refl; refusing = λ p. (refl, refl) }
+-- one request more
+one-more : {m : ℕ} {q : Request} {qs : List Request} {t₀ t t′ : List ℕ} {r : Reply} {ys : List Answer} → OneByOne m qs t₀ t ys → Promised m q t t′ r → OneByOne m (qs ++ (q ∷ [])) t₀ t′ (ys ++ (asAnswer r ∷ []))
+one-more (no-more t) p = and-then p (no-more _)
+one-more (and-then x rest) p = and-then x (one-more rest p)
 
--- a run goes on by one answer
-run-more : (m : ℕ) (L : Live) (xs : List ℕ) {a t′ : List ℕ} {x : Answer} (k n : ℕ) → length xs % 2 ≡ 0 → a ≡ numbersOf (answers m L (requestsOf xs)) → (x ≡ answer m (afterAll m L (requestsOf xs)) (asRequest k n)) × Stands m (after m (afterAll m L (requestsOf xs)) (asRequest k n)) t′ → RunFrom m L (xs ++ (k ∷ n ∷ [])) (a ++ numbersOf (x ∷ [])) t′
-unfolding requestsOf answers afterAll
-run-more m L xs {a} {t′} {x} k n w e p =
-    let q = requestsOf-append xs (k ∷ n ∷ []) w in
-    (rw (q, answers-append m L (requestsOf xs) (asRequest k n ∷ []), numbersOf-append (answers m L (requestsOf xs)), e, p .0) refl, rw (q, afterAll-append m L (requestsOf xs) (asRequest k n ∷ [])) (p .1))
+pub in-turn-none : (m : ℕ) (t : List ℕ) → InTurn m [] t t []
+unfolding requestsOf numbersOf
+in-turn-none m t = ([], refl, no-more t)
 
--- what is refused at once for m or the table's length depends on these alone
-at-once-same : (t t′ : List ℕ) (m : ℕ) (q : Request) → length t′ ≡ length t → atOnce t′ m q ≡ atOnce t m q
-at-once-same t t′ m q e = rw e refl
+pub in-turn-more : {m : ℕ} {t₀ t t′ : List ℕ} {r : Reply} (k n : ℕ) (xs a : List ℕ) → length xs % 2 ≡ 0 → InTurn m xs t₀ t a → Promised m (asRequest k n) t t′ r → InTurn m (xs ++ (k ∷ n ∷ [])) t₀ t′ (a ++ numbersOf (asAnswer r ∷ []))
+unfolding requestsOf
+in-turn-more {r = r} k n xs a w (ys, e, run) p = (ys ++ (asAnswer r ∷ []), rw (numbersOf-append ys, e) refl, rw (requestsOf-append xs (k ∷ n ∷ []) w) (one-more run p))
 
-module _ {m : ℕ} (t₀ t : List ℕ) {t′ : List ℕ} {r : Reply} (k n : ℕ) (long : length t ≡ length t₀) (one : ServesOne m (asRequest k n) t t′ r) where
-  -- the first request of all is start
-  first-start : k ≡ 0 → atOnce t₀ m start ≡ 0 → RunFrom m [] (k ∷ n ∷ []) (numbersOf (asAnswer r ∷ [])) t′
-  unfolding asRequest requestsOf answers answer afterAll after
-  first-start z o =
-      let q : asRequest k n ≡ start = rw z refl in
-      let p = one .from-start q (at-once-same t₀ t m start long ∙ o) in
-      rw q (ap (λ (x : Answer). numbersOf (x ∷ [])) (p .0), p .1)
+-- ---- the whole run
 
-  starts : (xs a : List ℕ) → length xs % 2 ≡ 0 → length a ≡ 2 * length xs → Serves m xs t₀ t a → beginsWithStart (xs ++ (k ∷ n ∷ [])) ≡ true → atOnce t₀ m start ≡ 0 → RunFrom m [] (xs ++ (k ∷ n ∷ [])) (a ++ numbersOf (asAnswer r ∷ [])) t′
-  unfolding beginsWithStart
-  starts [] [] w f s b o = first-start (eqb-true k 0 b) o
-  starts [] (x ∷ a) w f s b o = absurd (omega arith)
-  starts (y ∷ xs) a w f s b o = let p = s .from-start b o in run-more m [] (y ∷ xs) k n w (p .0) (one .right (afterAll m [] (requestsOf (y ∷ xs))) (p .1))
+-- from a table that stands for L
+run-right : {m : ℕ} {qs : List Request} {t t′ : List ℕ} {ys : List Answer} → OneByOne m qs t t′ ys → (L : Live) → Stands m L t → (ys ≡ answers m L qs) × Stands m (afterAll m L qs) t′
+unfolding answers afterAll
+run-right (no-more t) L s = (refl, s)
+run-right {m} (and-then {q = q} p rest) L s =
+    let x = p .right L s in
+    let y = run-right rest (after m L q) (x .1) in
+    (rw (x .0, y .0) refl, y .1)
 
-  pub serves-more : (xs a : List ℕ) → length xs % 2 ≡ 0 → length a ≡ 2 * length xs → Serves m xs t₀ t a → Serves m (xs ++ (k ∷ n ∷ [])) t₀ t′ (a ++ numbersOf (asAnswer r ∷ []))
-  unfolding requestsOf allRefused
-  serves-more xs a w f s = record { right = right; from-start = starts xs a w f s; refusing = refusing }
-    where
-      right : (L : Live) → Stands m L t₀ → RunFrom m L (xs ++ (k ∷ n ∷ [])) (a ++ numbersOf (asAnswer r ∷ [])) t′
-      right L z = let p = s .right L z in run-more m L xs k n w (p .0) (one .right (afterAll m L (requestsOf xs)) (p .1))
+-- where even start is refused, everything is, and nothing changes
+run-refusing : {m : ℕ} {qs : List Request} {t t′ : List ℕ} {ys : List Answer} → OneByOne m qs t t′ ys → 0 < atOnce t m start → (ys ≡ allRefused (atOnce t m start) qs) × (t′ ≡ t)
+unfolding allRefused
+run-refusing (no-more t) z = (refl, refl)
+run-refusing (and-then p rest) z =
+    let x = refuses (p .in-order) (p .alone) z in
+    let y = run-refusing rest (rw (x .1) z) in
+    (rw (x .0, y .0, x .1) refl, y .1 ∙ x .1)
 
-      refusing : 0 < atOnce t₀ m start → (a ++ numbersOf (asAnswer r ∷ []) ≡ numbersOf (allRefused (atOnce t₀ m start) (requestsOf (xs ++ (k ∷ n ∷ []))))) × (t′ ≡ t₀)
-      refusing z =
-          let e = at-once-same t₀ t m start long in
-          let p = s .refusing z in
-          let q = one .refusing (rw e z) in
-          (rw (requestsOf-append xs (k ∷ n ∷ []) w, allRefused-append (atOnce t₀ m start) (requestsOf xs), numbersOf-append (allRefused (atOnce t₀ m start) (requestsOf xs)), p .0, q .0, e) refl, q .1 ∙ p .1)
+-- whether the first request is start
+abbrev startsFirst : List Request → Bool
+startsFirst [] = false
+startsFirst (start ∷ qs) = true
+startsFirst (figures ∷ qs) = false
+startsFirst (checkUp ∷ qs) = false
+startsFirst (take n ∷ qs) = false
+startsFirst (giveBack o ∷ qs) = false
+startsFirst (which o ∷ qs) = false
+
+starts-first : (requests : List ℕ) → length requests % 2 ≡ 0 → beginsWithStart requests ≡ true → startsFirst (requestsOf requests) ≡ true
+unfolding beginsWithStart requestsOf asRequest
+starts-first [] w b = b
+starts-first (k ∷ []) w b = absurd (omega arith)
+starts-first (k ∷ n ∷ rest) w b = let z = eqb-true k 0 b in rw z refl
+
+-- from any table whatever, where the first request is a start that is not refused
+run-started : {m : ℕ} {qs : List Request} {t t′ : List ℕ} {ys : List Answer} → OneByOne m qs t t′ ys → startsFirst qs ≡ true → atOnce t m start ≡ 0 → (ys ≡ answers m [] qs) × Stands m (afterAll m [] qs) t′
+unfolding answers afterAll answer after
+run-started (no-more t) f o = contra f refl
+run-started (and-then {q = start} p rest) f o =
+    let x = p .own o in
+    let y = run-right rest [] (x .1) in
+    (rw (x .0, y .0) refl, y .1)
+run-started (and-then {q = figures} p rest) f o = contra f refl
+run-started (and-then {q = checkUp} p rest) f o = contra f refl
+run-started (and-then {q = take n} p rest) f o = contra f refl
+run-started (and-then {q = giveBack n} p rest) f o = contra f refl
+run-started (and-then {q = which n} p rest) f o = contra f refl
+
+pub in-turn-serves : {m : ℕ} (requests : List ℕ) {t t′ a′ : List ℕ} → length requests % 2 ≡ 0 → InTurn m requests t t′ a′ → Serves m requests t t′ a′
+in-turn-serves requests w (ys, e, run) = record {
+  right = λ L s. let x = run-right run L s in (e ∙ ap numbersOf (x .0), x .1);
+  from-start = λ b o. let x = run-started run (starts-first requests w b) o in (e ∙ ap numbersOf (x .0), x .1);
+  refusing = λ z. let x = run-refusing run z in (e ∙ ap numbersOf (x .0), x .1);
+}

@@ -4,7 +4,7 @@ use mathlib.Core.Bool.{true}
 use mathlib.Core.List.{List, [], _++_, _∷_}
 use Prim.Native.Nat.{_*_, _+_, _<_, max, ℕ}
 use lib.ListN.{drop, length, take as firstOf}
-use Rattle.arena.specs.Promises.{Right, Started, atOnce}
+use Rattle.arena.specs.Promises.{Exact, InOrder, Kept, RefusalAlone, Right, Started, TakenInside, ToldInside, atOnce}
 use Rattle.meaning.specs.Answers.{Answer, Request, checkUp, figures, giveBack, refused, start, take, which}
 use Rattle.meaning.specs.Blocks.{Live, mMost}
 use Rattle.meaning.specs.Runs.{afterAll, answers}
@@ -36,14 +36,33 @@ unfoldable pub allRefused : ℕ → List Request → List Answer
 allRefused n [] = []
 allRefused n (r ∷ rs) = refused n ∷ allRefused n rs
 
--- one request, from a table t to t′, with a reply r
-pub record ServesOne (m : ℕ) (q : Request) (t t′ : List ℕ) (r : Reply) : Type 0 where
-  -- from a table that stands for a set of live blocks
+-- what one kind of request promises of any table whatever, beside what all do
+abbrev pub Own : ℕ → Request → List ℕ → List ℕ → Reply → Type 0
+Own m start t t′ r = Started m t t′ r
+Own m (take n) t t′ r = TakenInside m n r
+Own m (giveBack o) t t′ r = Unit {0}
+Own m (which o) t t′ r = ToldInside m o r × (t′ ≡ t)
+Own m figures t t′ r = t′ ≡ t
+Own m checkUp t t′ r = Exact m t r × (t′ ≡ t)
+
+-- one request, from a table t to t′, with a reply r: all that is promised of it
+pub record Promised (m : ℕ) (q : Request) (t t′ : List ℕ) (r : Reply) : Type 0 where
+  -- of any table whatever
+  pub in-order : InOrder m q t r
+  pub alone : RefusalAlone t t′ r
+  pub kept : Kept m t t′
+  pub own : Own m q t t′ r
+  -- of a table that stands for a set of live blocks
   pub right : Right m q t t′ r
-  -- a start that is not refused, from any table whatever
-  pub from-start : q ≡ start → Started m t t′ r
-  -- where m is too large or the table too short, which refuses even start, everything is refused with that number
-  pub refusing : 0 < atOnce t m start → (asAnswer r ≡ refused (atOnce t m start)) × (t′ ≡ t)
+
+-- requests one by one, from a table t to t′, with their answers: each does all that is promised of it, on the table that the one before it left
+pub data OneByOne (m : ℕ) : List Request → List ℕ → List ℕ → List Answer → Type 0 where
+  no-more : (t : List ℕ) → OneByOne m [] t t []
+  and-then : {q : Request} {qs : List Request} {t t₁ t′ : List ℕ} {r : Reply} {ys : List Answer} → Promised m q t t₁ r → OneByOne m qs t₁ t′ ys → OneByOne m (q ∷ qs) t t′ (asAnswer r ∷ ys)
+
+-- the numbers a′ are the answers of requests one by one
+abbrev pub InTurn : ℕ → List ℕ → List ℕ → List ℕ → List ℕ → Type 0
+InTurn m requests t t′ a′ = (ys : List Answer) × (a′ ≡ numbersOf ys) × OneByOne m (requestsOf requests) t t′ ys
 
 -- the answers a′ are those of the run from L, and the table t′ stands for the last live blocks
 abbrev pub RunFrom : ℕ → Live → List ℕ → List ℕ → List ℕ → Type 0

@@ -9,7 +9,7 @@ ghost use Rattle.table.specs.Table.{Stands};
 ghost use Rattle.terms.specs.Reply.{asAnswer};
 ghost use Rattle.arena.specs.Promises.{Kept, atOnce};
 ghost use Rattle.sequence.specs.Numbers.{asRequest, beginsWithStart, known, requestsOf, servable};
-ghost use Rattle.sequence.specs.Serving.{Alike, Serves, ServesOne, Stored, costAll, costMost, costOf};
+ghost use Rattle.sequence.specs.Serving.{Alike, InTurn, Promised, Serves, Stored, costAll, costMost, costOf};
 use arena::Counted;
 use arena::check_up;
 use arena::figures;
@@ -78,10 +78,9 @@ fn store_reply(answers: &mut [u64], at: usize, reply: Reply)
 
 // One request: 0 start, 1 take, 2 give back, 3 which, 4 figures, else check-up. An m that is too large is refused here, so that the count stays small.
 fn serve_one(t: &mut [u64], m: u64, kind: u64, argument: u64) -> Counted
-    ensures stays_inside { λ r. ⌜ Kept m (now (t .entry)) (now (t .exit)) ⌝ }
+    ensures promised { λ r. ⌜ Promised m (asRequest kind argument) (now (t .entry)) (now (t .exit)) (r .reply) ⌝ }
     ensures ends_within { λ r. ⌜ r .spent ≤ costOf m (asRequest kind argument) ⌝ }
     ensures few { λ r. ⌜ r .spent ≤ costMost ⌝ }
-    ensures right { λ r. ⌜ ServesOne m (asRequest kind argument) (now (t .entry)) (now (t .exit)) (r .reply) ⌝ }
 {
     if M_MOST < m {
         return Counted {
@@ -121,6 +120,7 @@ pub fn serve(t: &mut [u64], m: u64, requests: &[u64], answers: &mut [u64]) -> Se
     ensures stays_inside { λ r. ⌜ Kept m (now (t .entry)) (now (t .exit)) × (length (now (answers .exit)) ≡ length (now (answers .entry))) ⌝ }
     ensures ends_within { λ r. ⌜ r .spent ≤ costAll m (requestsOf (now (requests .entry))) ⌝ }
     ensures right { λ r. ⌜ (r .served ≡ true → Serves m (now (requests .entry)) (now (t .entry)) (now (t .exit)) (now (answers .exit))) ⌝ }
+    ensures one_by_one { λ r. ⌜ (r .served ≡ true → InTurn m (now (requests .entry)) (now (t .entry)) (now (t .exit)) (now (answers .exit))) ⌝ }
 {
     if !can_serve(requests, answers.len()) {
         return Served {

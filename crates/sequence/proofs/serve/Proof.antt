@@ -25,7 +25,7 @@ returns : tie.Need-returns Inv-loop μ-loop
 returns c =
     let start = c .before .before .before .before .before in
     let e = sym (c .before .can-serve .ensures) ∙ not-true _ (c .if1 .taken) in
-    (sym e, ((λ _. (refl, refl)), ((kept-same _ _, refl), (search needs, (λ t. contra t refl)))))
+    (sym e, ((λ _. (refl, refl)), ((kept-same _ _, refl), (search needs, ((λ t. contra t refl), (λ t. contra t refl))))))
 
 loop-holds : tie.Need-loop-holds Inv-loop μ-loop
 loop-holds c =
@@ -71,7 +71,7 @@ loop-again c =
     let first = second .before in
     let last = first .before .before .before .loop in
     let got = one .serve-one .ensures in
-    (last .inv .0, last .inv .1, going-more _ _ _ (first .number-at .ensures) (second .number-at2 .ensures) (last .inv .1) (omega arith) (last .inv .2) (got .0) (got .1 .0) (got .1 .1 .0) (got .1 .1 .1) (stored .store-reply .ensures))
+    (last .inv .0, last .inv .1, going-more _ _ _ (first .number-at .ensures) (second .number-at2 .ensures) (last .inv .1) (omega arith) (last .inv .2) (got .0) (got .1 .0) (got .1 .1) (stored .store-reply .ensures))
 
 same-length : tie.Need-same-length Inv-loop μ-loop
 same-length c = search needs
@@ -87,7 +87,7 @@ returns-2 c =
     let all = last .inv .1 in
     let g = last .inv .2 in
     let end = going-end all (omega (arith, all .whole, g .even)) g in
-    (sym e, ((λ f. contra refl f), ((g .kept, g .long), (end .0, (λ _. end .1)))))
+    (sym e, ((λ f. contra refl f), ((g .kept, g .long), (end .0, ((λ _. end .1 .0), (λ _. end .1 .1))))))
 
 pub serve-spec : {M : Type 1} → statement M
 serve-spec =

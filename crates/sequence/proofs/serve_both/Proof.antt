@@ -54,8 +54,8 @@ returns-3 c =
     let f = sym (tested2 .before .can-serve2 .ensures) ∙ not-false _ (tested2 .if2 .left) in
     let one = first .serve .ensures in
     let two = second .serve2 .ensures in
-    let s = one .1 .1 .1 .1 (one .0 ∙ e) in
-    let z = two .1 .1 .1 .1 (two .0 ∙ f) in
+    let s = one .1 .1 .1 .1 .0 (one .0 ∙ e) in
+    let z = two .1 .1 .1 .1 .0 (two .0 ∙ f) in
     (rw (e, f) refl, ((λ t. contra refl t), ((one .1 .1 .0 .0, two .1 .1 .0 .0), ((λ _. (s, z)), ((λ L _ p q. no-memory s z L p q), (λ _ w p q. new-after-start s z w p q))))))
 
 pub serve-both-spec : {M : Type 1} → statement M

@@ -4,7 +4,7 @@ use Prim.Native.Nat.{ℕ}
 use borrow.Author.Needs.{needs}
 use native.Mathlib.Omega.{arith}
 use Rattle.meaning.specs.Answers.{checkUp as ask-check-up, figures as ask-figures, giveBack as ask-give-back, start as ask-start, take as ask-take, which as ask-which}
-use Rattle.sequence.proofs.One.{asked-check-up, kept-same, one-check-up, one-large-m, one-of-kind, one-other, one-start}
+use Rattle.sequence.proofs.One.{asked-check-up, check-up-right, kept-same, one-large-m, one-of-kind, start-right}
 use Rattle.sequence.specs.Numbers.{asRequest}
 use Rattle.sequence.specs.Serving.{costOf}
 use Rattle.sequence.proofs.serve_one.Statement.{statement}
@@ -17,7 +17,7 @@ returns : tie.Need-returns
 returns c =
     let start = c .before .before .before in
     let q = asRequest (start .args .kind) (start .args .argument) in
-    (kept-same _ _, (search needs, (search needs, one-large-m q _ (omega arith) (c .refuse .ensures))))
+    (one-large-m _ (omega arith) (c .refuse .ensures) q, (search needs, search needs))
 
 start-requires : tie.Need-start-requires
 start-requires c κs = search needs
@@ -33,7 +33,7 @@ returns-2 c =
     let n = start .args .argument in
     let got = c .before .before .start .ensures in
     let asked : asRequest k n ≡ ask-start = ap (λ (j : ℕ). asRequest j n) {x = k} {y = 0} (omega arith) in
-    one-of-kind k n _ asked (omega arith) (got .1 .1 .0) (got .1 .1 .1 .0) (one-start (got .0) (got .1 .0) (got .1 .1 .1 .1))
+    one-of-kind k n _ asked (omega arith) (got .1 .1 .1 .0) (record { in-order = got .0; alone = got .1 .0; kept = got .1 .1 .0; own = got .1 .1 .1 .1; right = start-right (got .1 .1 .1 .1) })
 
 take-requires : tie.Need-take-requires
 take-requires c κs = search needs
@@ -49,7 +49,7 @@ returns-3 c =
     let n = start .args .argument in
     let got = c .before .before .take .ensures in
     let asked : asRequest k n ≡ ask-take n = ap (λ (j : ℕ). asRequest j n) {x = k} {y = 1} (omega arith) in
-    one-of-kind k n _ asked (omega arith) (got .1 .1 .0 .0) (got .1 .1 .1 .0) (one-other (ask-take n) refl (got .0) (got .1 .0) (got .1 .1 .1 .1))
+    one-of-kind k n _ asked (omega arith) (got .1 .1 .1 .0) (record { in-order = got .0; alone = got .1 .0; kept = got .1 .1 .0 .0; own = got .1 .1 .0 .1; right = got .1 .1 .1 .1 })
 
 give-back-requires : tie.Need-give-back-requires
 give-back-requires c κs = search needs
@@ -65,7 +65,7 @@ returns-4 c =
     let n = start .args .argument in
     let got = c .before .before .give-back .ensures in
     let asked : asRequest k n ≡ ask-give-back n = ap (λ (j : ℕ). asRequest j n) {x = k} {y = 2} (omega arith) in
-    one-of-kind k n _ asked (omega arith) (got .1 .1 .0) (got .1 .1 .1 .0) (one-other (ask-give-back n) refl (got .0) (got .1 .0) (got .1 .1 .1 .1))
+    one-of-kind k n _ asked (omega arith) (got .1 .1 .1 .0) (record { in-order = got .0; alone = got .1 .0; kept = got .1 .1 .0; own = record {}; right = got .1 .1 .1 .1 })
 
 which-requires : tie.Need-which-requires
 which-requires c κs = search needs
@@ -81,7 +81,7 @@ returns-5 c =
     let n = start .args .argument in
     let got = c .which .ensures in
     let asked : asRequest k n ≡ ask-which n = ap (λ (j : ℕ). asRequest j n) {x = k} {y = 3} (omega arith) in
-    one-of-kind k n _ asked (omega arith) (kept-same _ _) (got .1 .1 .1 .0) (one-other (ask-which n) refl (got .0) (got .1 .0) (got .1 .1 .1 .1))
+    one-of-kind k n _ asked (omega arith) (got .1 .1 .1 .0) (record { in-order = got .0; alone = got .1 .0; kept = kept-same _ _; own = (got .1 .1 .0, refl); right = got .1 .1 .1 .1 })
 
 figures-requires : tie.Need-figures-requires
 figures-requires c κs = search needs
@@ -97,7 +97,7 @@ returns-6 c =
     let n = start .args .argument in
     let got = c .figures .ensures in
     let asked : asRequest k n ≡ ask-figures = ap (λ (j : ℕ). asRequest j n) {x = k} {y = 4} (omega arith) in
-    one-of-kind k n _ asked (omega arith) (kept-same _ _) (got .1 .1 .0) (one-other ask-figures refl (got .0) (got .1 .0) (got .1 .1 .1))
+    one-of-kind k n _ asked (omega arith) (got .1 .1 .0) (record { in-order = got .0; alone = got .1 .0; kept = kept-same _ _; own = refl; right = got .1 .1 .1 })
 
 check-up-requires : tie.Need-check-up-requires
 check-up-requires c κs = search needs
@@ -113,7 +113,7 @@ returns-7 c =
     let n = start .args .argument in
     let got = c .check-up .ensures in
     let asked : asRequest k n ≡ ask-check-up = asked-check-up k n (omega arith) in
-    one-of-kind k n _ asked (omega arith) (kept-same _ _) (got .1 .1 .0) (one-check-up (got .0) (got .1 .0) (got .1 .1 .1))
+    one-of-kind k n _ asked (omega arith) (got .1 .1 .0) (record { in-order = got .0; alone = got .1 .0; kept = kept-same _ _; own = (got .1 .1 .1, refl); right = check-up-right (got .1 .1 .1) })
 
 pub serve-one-spec : {M : Type 1} → statement M
 serve-one-spec =
