@@ -49,11 +49,11 @@ uint64_t ba_give_back(uint64_t *table, size_t cells, uint64_t m, uint64_t offset
 uint64_t ba_which(const uint64_t *table, size_t cells, uint64_t m, uint64_t offset, uint64_t *start, uint64_t *size);
 
 /* The bytes of the live blocks, the bytes of the pages that aren't free, and the size of the largest block of free pages. At most
- * 6 * 2^m accesses to the table.
+ * 3 * 2^m accesses to the table.
  */
 uint64_t ba_figures(const uint64_t *table, size_t cells, uint64_t m, uint64_t *live, uint64_t *held, uint64_t *room);
 
-/* Whether the table is sound: 1 or 0. At most 6 * 2^m accesses to the table. */
+/* Whether the table is sound: 1 or 0. At most 5 * 2^m - 2 accesses to the table. */
 uint64_t ba_check_up(const uint64_t *table, size_t cells, uint64_t m, uint64_t *sound);
 
 #ifdef __cplusplus

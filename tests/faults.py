@@ -36,8 +36,8 @@ def run_campaigns(command, campaigns, watched):
         kinds = [counts[f'refused-{number}'] for number in (1, 2, 3, 4)]
         if counts['requests'] < count or not all(kinds) or not counts['flips'] or not counts['answered']:
             raise Wrong(f'campaign {seed} {count} {m} tried too little: {line}')
-        if watched and not all(0 < counts[f'most-{word}'] <= bound for word, bound in zip(WATCHED, cost_bounds(m))):
-            raise Wrong(f'campaign {seed} {count} {m} watched too little, or the accesses are not within the bounds: {line}')
+        if watched and [counts[f'most-{word}'] for word in WATCHED] != list(cost_bounds(m)):
+            raise Wrong(f'campaign {seed} {count} {m}: the most accesses are not the bounds {cost_bounds(m)}, which some request reaches: {line}')
         requests += counts['requests']
         flips += counts['flips']
     return requests, flips, [counts[f'most-{word}'] for word in WATCHED] if watched else []

@@ -346,8 +346,11 @@ static uint64_t accesses_most(const struct call *call)
     case TAKE: return 3 * (m + 1) + 2;
     case GIVE: return 2 * (m + 1) + 2;
     case WHICH: return m ? m + 1 : 2;
-    default: return 2 * needed();
+    case FIGURES: return needed();
+    case CHECKUP: return 5 * (UINT64_C(1) << m) - 2;
+    default: wrong("no such call");
     }
+    return 0;
 }
 
 /* The same call once more, on the cells of before, with its accesses counted. */

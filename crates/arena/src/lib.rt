@@ -1,7 +1,7 @@
 // The six requests of document 01, on a table that the caller lends. No request asks anything of its caller: any numbers and any table may come in.
 ghost use mathlib.Core.Path.{_≡_};
 ghost use mathlib.Core.Bool.{cond};
-ghost use Prim.Native.Nat.{_*_, _+_, _≤_, max};
+ghost use Prim.Native.Nat.{_*_, _+_, _-_, _^_, _≤_, max};
 ghost use lib.Dec.{leb, ltb};
 ghost use Rattle.meaning.specs.Blocks.{mMost};
 ghost use Rattle.meaning.specs.Answers.{checkUp as ask-check-up, figures as ask-figures, giveBack as ask-give-back, refused, start as ask-start, take as ask-take, which as ask-which};
@@ -167,7 +167,7 @@ pub fn which(t: &[u64], m: u64, o: u64) -> Counted
 pub fn figures(t: &[u64], m: u64) -> Counted
     ensures in_order { λ r. ⌜ InOrder m ask-figures (now (t .entry)) (r .reply) ⌝ }
     ensures refusal_alone { λ r. ⌜ RefusalAlone (now (t .entry)) (now (t .entry)) (r .reply) ⌝ }
-    ensures ends_within { λ r. ⌜ r .spent ≤ 2 * need m ⌝ }
+    ensures ends_within { λ r. ⌜ r .spent ≤ need m ⌝ }
     ensures right { λ r. ⌜ Right m ask-figures (now (t .entry)) (now (t .entry)) (r .reply) ⌝ }
 {
     let number = table_refusal(m, t.len());
@@ -187,7 +187,7 @@ pub fn figures(t: &[u64], m: u64) -> Counted
 pub fn check_up(t: &[u64], m: u64) -> Counted
     ensures in_order { λ r. ⌜ InOrder m ask-check-up (now (t .entry)) (r .reply) ⌝ }
     ensures refusal_alone { λ r. ⌜ RefusalAlone (now (t .entry)) (now (t .entry)) (r .reply) ⌝ }
-    ensures ends_within { λ r. ⌜ r .spent ≤ 2 * need m ⌝ }
+    ensures ends_within { λ r. ⌜ r .spent ≤ 5 * 2 ^ m - 2 ⌝ }
     ensures exact { λ r. ⌜ Exact m (now (t .entry)) (r .reply) ⌝ }
 {
     let number = table_refusal(m, t.len());

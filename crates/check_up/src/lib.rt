@@ -62,6 +62,7 @@ fn sound_at(t: &[u64], m: u64, h: u64, v: usize, spent: &mut u64) -> bool
     requires { ⌜ m ≤ mMost ⌝ ∗ ⌜ h ≤ m ⌝ ∗ ⌜ length (now t) ≡ need m ⌝ ∗ ⌜ v < 2 * 2 ^ (m - h) ⌝ ∗ ⌜ now spent < 2 ^ 31 ⌝ }
     ensures verdict { λ r. ⌜ r ≡ soundAt (now (t .entry)) (2 ^ m) h v ⌝ }
     ensures cost { λ r. ⌜ now (spent .exit) ≤ now (spent .entry) + 3 ⌝ }
+    ensures cost_leaf { λ r. ⌜ (h ≡ 0 → now (spent .exit) ≤ now (spent .entry) + 2) ⌝ }
 {
     let cell = get(t, v, &mut *spent);
     if h == 0 {
@@ -78,6 +79,7 @@ fn level_sound(t: &[u64], m: u64, h: u64, first: usize, spent: &mut u64) -> bool
     requires { ⌜ m ≤ mMost ⌝ ∗ ⌜ h ≤ m ⌝ ∗ ⌜ first ≡ 2 ^ (m - h) ⌝ ∗ ⌜ length (now t) ≡ need m ⌝ ∗ ⌜ now spent < 2 ^ 30 ⌝ }
     ensures verdict { λ r. ⌜ LevelChecked (now (t .entry)) (2 ^ m) h first (2 * first) r ⌝ }
     ensures cost { λ r. ⌜ now (spent .exit) ≤ now (spent .entry) + 3 * first ⌝ }
+    ensures cost_leaves { λ r. ⌜ (h ≡ 0 → now (spent .exit) ≤ now (spent .entry) + 2 * first) ⌝ }
 {
     let mut v = first;
     while v < 2 * first {
@@ -93,7 +95,7 @@ fn level_sound(t: &[u64], m: u64, h: u64, first: usize, spent: &mut u64) -> bool
 pub fn check_table(t: &[u64], m: u64, spent: &mut u64) -> bool
     requires { ⌜ m ≤ mMost ⌝ ∗ ⌜ length (now t) ≡ need m ⌝ ∗ ⌜ now spent < 2 ^ 20 ⌝ }
     ensures verdict { λ r. ⌜ Checked m (now (t .entry)) r ⌝ }
-    ensures cost { λ r. ⌜ now (spent .exit) ≤ now (spent .entry) + 2 * need m ⌝ }
+    ensures cost { λ r. ⌜ now (spent .exit) + 2 ≤ now (spent .entry) + 5 * 2 ^ m ⌝ }
 {
     let spare = get(t, 0, &mut *spent);
     if spare != 0 {

@@ -1,7 +1,7 @@
 -- The digits of a number in base two, as a set of numbers. Assumes nothing.
 use mathlib.Core.Path.{_≡_}
 use mathlib.Core.Bool.{Bool, false, true}
-use Prim.Native.Nat.{_%_, _+_, _-_, _/_, _<_, _^_, suc, zero, ℕ}
+use Prim.Native.Nat.{_%_, _-_, _/_, _<_, _^_, suc, zero, ℕ}
 use lib.Dec.{eqb}
 
 -- digit i of n is 1

@@ -1,15 +1,14 @@
 -- The sums over a level's nodes and over all levels, as loops make them: start, step, end, and that they fit. Assumes nothing.
-use mathlib.Core.Path.{_∙_, _≡_, ap₂, sym}
+use mathlib.Core.Path.{_∙_, _≡_, ap₂, refl, sym}
 use mathlib.Core.List.{List}
-use Prim.Native.Nat.{_*_, _+_, _-_, _/_, _<_, _^_, _≤_, suc, ℕ}
-use lib.Pow.{pow-mono}
+use Prim.Native.Nat.{_*_, _+_, _-_, _/_, _<_, _^_, _≤_, suc, zero, ℕ}
+use lib.Pow.{pow-mono, pow-pos}
 use native.Mathlib.Nat.{mul-assoc, mul-le-mul-left, sub-self}
 use native.Mathlib.Omega.{arith}
 use Rattle.meaning.specs.Blocks.{arena, mMost, pageBytes}
 use Rattle.meaning.specs.Bytes.{total}
 use Rattle.table.proofs.LevelSums.{level-sum-next, level-sum-none, levels-sum-more, levels-sum-none}
 use Rattle.table.proofs.NodeSums.{level-held-le, level-live-le, levels-held-le, levels-live-le}
-use Rattle.table.proofs.Parts.{next-level}
 use Rattle.table.specs.Sums.{levelsSum, nodeHeld, nodeLive}
 
 -- ---- one level
@@ -25,10 +24,6 @@ level-next f first v sum more l e g = ap₂ _+_ e g ∙ sym (level-sum-next f fi
 -- all nodes
 pub level-end : (f : ℕ → ℕ) (first v sum : ℕ) → v ≡ 2 * first → sum ≡ total f first (v - first) → sum ≡ total f first first
 level-end f first v sum e g = let z : v - first ≡ first = omega arith in rw z at g
-
--- any level has at most as many nodes as the largest arena has pages
-pub level-few : (m h : ℕ) → m ≤ mMost → 2 ^ (m - h) ≤ 2 ^ mMost
-level-few m h l = pow-mono {i = m - h} {j = mMost} (omega arith)
 
 -- one node more to a level's live bytes: still at most the arena
 pub level-live-more : (t : List ℕ) (m h first v sum more : ℕ) → h ≤ m → first ≡ 2 ^ (m - h) → first ≤ v → v < 2 * first → sum ≡ total (nodeLive t (2 ^ m) h) first (v - first) → more ≡ nodeLive t (2 ^ m) h v → sum + more ≤ arena m
@@ -52,10 +47,6 @@ levels-next f m h first sum more z e g = ap₂ _+_ e (rw z at g) ∙ sym (levels
 pub levels-end : (f : ℕ → ℕ → ℕ) (m h sum : ℕ) → h ≡ m + 1 → sum ≡ levelsSum f m h → sum ≡ levelsSum f m (m + 1)
 levels-end f m h sum e g = rw e at g
 
--- the next level has half the nodes
-pub half-level : (m h first : ℕ) → h + 1 ≤ m → first ≡ 2 ^ (m - h) → first / 2 ≡ 2 ^ (m - (h + 1))
-half-level m h first l e = let z : h + 1 ≡ suc h = omega arith in rw z (omega (arith, next-level m h (omega arith)))
-
 -- a number of levels times the pages of an arena is at most that of the largest
 pub levels-few : (m h : ℕ) → m ≤ mMost → h ≤ m + 1 → 2 ^ m * h ≤ 2 ^ mMost * (mMost + 1)
 levels-few m h l b =
@@ -73,3 +64,8 @@ pub levels-held-more : (t : List ℕ) (m h first sum more : ℕ) → m ≤ mMost
 levels-held-more t m h first sum more l b z e g =
     rw (levels-next (nodeHeld t) m h first sum more z e g)
     (omega (arith, levels-held-le t m (h + 1) (omega arith), levels-few m (h + 1) l (omega arith)))
+
+-- the accesses, from the level of h to the next one
+pub accesses-next : (m h first s₀ s s′ : ℕ) → first ≡ 2 ^ (m - h) → (h ≡ 0 → s ≤ s₀) → (0 < h → s + (2 * first - 1) + 1 ≤ s₀ + 3 * 2 ^ m) → s′ ≤ s + 2 * first → (0 < h → s′ ≤ s + first) → s′ + (2 * (first / 2) - 1) + 1 ≤ s₀ + 3 * 2 ^ m
+accesses-next m zero first s₀ s s′ e leaf above c d = let z : m - 0 ≡ m = omega arith in omega (arith, rw z at e, leaf refl, c, pow-pos m)
+accesses-next m (suc h) first s₀ s s′ e leaf above c d = omega (arith, e, above (omega arith), d (omega arith), pow-pos (m - suc h))

@@ -47,7 +47,7 @@ fn node_sums(t: &[u64], m: u64, h: u64, v: usize, spent: &mut u64) -> Sums
     requires { ⌜ m ≤ mMost ⌝ ∗ ⌜ h ≤ m ⌝ ∗ ⌜ length (now t) ≡ need m ⌝ ∗ ⌜ v < 2 * 2 ^ (m - h) ⌝ ∗ ⌜ now spent < 2 ^ 31 ⌝ }
     ensures live { λ r. ⌜ r .live ≡ nodeLive (now (t .entry)) (2 ^ m) h v ⌝ }
     ensures held { λ r. ⌜ r .held ≡ nodeHeld (now (t .entry)) h v ⌝ }
-    ensures cost { λ r. ⌜ now (spent .exit) ≤ now (spent .entry) + 2 ⌝ }
+    ensures cost { λ r. ⌜ now (spent .exit) ≤ now (spent .entry) + 1 + (1 - h) ⌝ }
 {
     let cell = get(t, v, &mut *spent);
     let tag = tag_of(cell);
@@ -79,6 +79,7 @@ fn level_sums(t: &[u64], m: u64, h: u64, first: usize, spent: &mut u64) -> Sums
     ensures live { λ r. ⌜ r .live ≡ total (nodeLive (now (t .entry)) (2 ^ m) h) first first ⌝ }
     ensures held { λ r. ⌜ r .held ≡ total (nodeHeld (now (t .entry)) h) first first ⌝ }
     ensures cost { λ r. ⌜ now (spent .exit) ≤ now (spent .entry) + 2 * first ⌝ }
+    ensures cost_above { λ r. ⌜ (0 < h → now (spent .exit) ≤ now (spent .entry) + first) ⌝ }
 {
     let mut v = first;
     let mut live: u64 = 0;
@@ -101,7 +102,7 @@ fn all_sums(t: &[u64], m: u64, spent: &mut u64) -> Sums
     ensures live { λ r. ⌜ r .live ≡ levelsSum (nodeLive (now (t .entry)) (2 ^ m)) m (m + 1) ⌝ }
     ensures held { λ r. ⌜ r .held ≡ levelsSum (nodeHeld (now (t .entry))) m (m + 1) ⌝ }
     ensures few { λ r. ⌜ r .held ≤ 2 ^ m * (m + 1) ⌝ }
-    ensures cost { λ r. ⌜ now (spent .exit) < now (spent .entry) + 4 * 2 ^ m ⌝ }
+    ensures cost { λ r. ⌜ now (spent .exit) < now (spent .entry) + 3 * 2 ^ m ⌝ }
 {
     let mut first = page_count(m);
     let mut h: u64 = 0;
@@ -137,7 +138,7 @@ fn room_bytes(m: u64, room: u64) -> u64
 // Bytes live, bytes held, and the room.
 pub fn sum_table(t: &[u64], m: u64, spent: &mut u64) -> Reply
     requires { ⌜ m ≤ mMost ⌝ ∗ ⌜ length (now t) ≡ need m ⌝ ∗ ⌜ now spent < 2 ^ 20 ⌝ }
-    ensures { λ r. ⌜ Summed m (2 * need m) (now (t .entry)) r (now (spent .entry)) (now (spent .exit)) ⌝ }
+    ensures { λ r. ⌜ Summed m (need m) (now (t .entry)) r (now (spent .entry)) (now (spent .exit)) ⌝ }
 {
     let sums = all_sums(t, m, &mut *spent);
     let root = get(t, 1, &mut *spent);

@@ -1,7 +1,7 @@
 -- Requests and answers as numbers, where lists are joined; and one request more of a list. Assumes nothing.
 use mathlib.Core.Path.{_∙_, _≡_, ap, refl}
 use mathlib.Core.List.{List, [], _++_, _∷_}
-use Prim.Native.Nat.{_%_, _*_, _+_, _≤_, suc, zero, ℕ}
+use Prim.Native.Nat.{_%_, _+_, _≤_, suc, zero, ℕ}
 use lib.ListN.{getD, length, length-take, take as firstOf}
 use native.Mathlib.Numerals.{add-one, add-two}
 use native.Mathlib.Omega.{arith}

@@ -2,7 +2,7 @@
 use mathlib.Core.Path.{_≡_}
 use mathlib.Core.Bool.{true}
 use mathlib.Core.List.{List, [], _++_, _∷_}
-use Prim.Native.Nat.{_*_, _+_, _<_, max, ℕ}
+use Prim.Native.Nat.{_*_, _+_, _-_, _<_, _^_, max, ℕ}
 use lib.ListN.{drop, length, take as firstOf}
 use Rattle.arena.specs.Promises.{Exact, InOrder, Kept, RefusalAlone, Right, Started, TakenInside, ToldInside, atOnce}
 use Rattle.meaning.specs.Answers.{Answer, Request, checkUp, figures, giveBack, refused, start, take, which}
@@ -19,8 +19,8 @@ costOf m start = need m
 costOf m (take n) = 3 * (m + 1) + 2
 costOf m (giveBack o) = 2 * (m + 1) + 2
 costOf m (which o) = 1 + max 1 m
-costOf m figures = 2 * need m
-costOf m checkUp = 2 * need m
+costOf m figures = need m
+costOf m checkUp = 5 * 2 ^ m - 2
 
 -- and of several
 unfoldable pub costAll : ℕ → List Request → ℕ
@@ -29,7 +29,7 @@ costAll m (r ∷ rs) = costOf m r + costAll m rs
 
 -- the accesses of any request, at any m
 abbrev pub costMost : ℕ
-costMost = 2 * need mMost
+costMost = 5 * 2 ^ mMost
 
 -- the same refusal for each request
 unfoldable pub allRefused : ℕ → List Request → List Answer

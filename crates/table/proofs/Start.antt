@@ -39,6 +39,10 @@ filled-more t u a b x h n f =
 
 -- ---- level after level
 
+-- a level has no more nodes than the largest arena has pages
+pub level-few : (m h : ℕ) → m ≤ mMost → 2 ^ (m - h) ≤ 2 ^ mMost
+level-few m h l = pow-mono {i = m - h} {j = mMost} (omega arith)
+
 -- half of a level's first node is the first of the next level up
 pub half-power : (m h first : ℕ) → h < m → first ≡ 2 ^ (m - h) → first / 2 ≡ 2 ^ (m - (h + 1))
 half-power m h first l e =

@@ -7,7 +7,6 @@ use lib.ListN.{length}
 use native.Mathlib.Omega.{arith}
 use Rattle.meaning.specs.Answers.{Answer, insert, insertSome, offset, orRefuse, refused, three}
 use Rattle.meaning.specs.Blocks.{Block, Live, arena}
-use Rattle.meaning.specs.Search.{has}
 use Rattle.table.specs.Table.{Stands}
 use Rattle.terms.specs.Reply.{asAnswer}
 use Rattle.terms.specs.declared.Reply.{Reply}

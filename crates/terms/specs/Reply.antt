@@ -1,5 +1,4 @@
 -- A reply of the code is an answer of the meaning. Assumes nothing.
-use Prim.Native.Nat.{ℕ}
 use Rattle.meaning.specs.Answers.{Answer}
 use Rattle.terms.specs.declared.Reply.{Reply}
 

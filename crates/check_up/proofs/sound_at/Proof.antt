@@ -44,7 +44,7 @@ returns c =
     let m : ℕ = c .before .before .before .before .before .before .before .before .args .m in
     let v : ℕ = c .before .before .before .before .before .before .before .before .args .v in
     let bits = c .before .get2 .ensures .0 ∙ ap (λ (k : ℕ). getD t (v + k) 0) (c .before .before .before .page-count .ensures) in
-    (c .leaf-sound .ensures ∙ (ap₂ leafSound (c .before .before .before .before .before .get .ensures .0) bits ∙ (sym (sound-at-leaf t (2 ^ m) v) ∙ ap (λ (k : ℕ). soundAt t (2 ^ m) k v) (omega arith))), omega arith)
+    (c .leaf-sound .ensures ∙ (ap₂ leafSound (c .before .before .before .before .before .get .ensures .0) bits ∙ (sym (sound-at-leaf t (2 ^ m) v) ∙ ap (λ (k : ℕ). soundAt t (2 ^ m) k v) (omega arith))), (omega arith, λ z. omega arith))
 
 mul-get : tie.Need-mul-get
 mul-get c = omega (arith, halves-inside c)
@@ -75,7 +75,7 @@ returns-2 c =
     let v : ℕ = c .before .before .before .before .before .before .before .before .before .args .v in
     let halves = ap₂ (nodeSound (h - 1) (getD t v 0)) (c .before .before .before .get3 .ensures .0) (c .before .get4 .ensures .0) in
     let all = ap (λ (x : ℕ). nodeSound (h - 1) x (c .before .before .before .get3 .result) (c .before .get4 .result)) (c .before .before .before .before .before .before .get .ensures .0) ∙ halves in
-    (c .node-sound .ensures ∙ (all ∙ (sym (sound-at-node t (2 ^ m) (h - 1) v) ∙ ap (λ (k : ℕ). soundAt t (2 ^ m) k v) (omega arith))), omega arith)
+    (c .node-sound .ensures ∙ (all ∙ (sym (sound-at-node t (2 ^ m) (h - 1) v) ∙ ap (λ (k : ℕ). soundAt t (2 ^ m) k v) (omega arith))), (omega arith, λ z. absurd (omega arith)))
 
 pub sound-at-spec : {M : Type 1} → statement M
 sound-at-spec = tie.close (tie.spec get-requires page-count-requires add-get get-requires-2 leaf-sound-requires returns mul-get get-requires-3 mul-get-2 add-get-2 get-requires-4 sub-node-sound node-sound-requires returns-2)

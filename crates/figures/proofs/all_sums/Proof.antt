@@ -1,20 +1,21 @@
--- `figures::all_sums` meets its contract. The loop's invariant: the levels lower than h are summed, and the accesses that are left, those of
--- the level of h and of all above it, are at most four times that level's nodes, less 2. Assumes nothing.
+-- `figures::all_sums` meets its contract. The loop's invariant: the levels lower than h are summed, and above the leaves the accesses that are
+-- left, those of the level of h and of all above it, are at most twice that level's nodes, less 1. Assumes nothing.
 use mathlib.Core.Path.{_∙_, _≡_, ap}
-use Prim.Native.Nat.{_*_, _+_, _-_, _^_, _≤_, ℕ}
+use Prim.Native.Nat.{_*_, _+_, _-_, _<_, _^_, _≤_, ℕ}
 use borrow.Author.Needs.{needs}
 use denote.Ref.{now}
-use lib.Pow.{pow-mono, pow-pos}
+use lib.Pow.{pow-mono}
 use native.Mathlib.Omega.{arith}
 use Rattle.table.proofs.NodeSums.{levels-held-le}
+use Rattle.table.proofs.Start.{half-power}
 use Rattle.table.specs.Sums.{levelsSum, nodeHeld, nodeLive}
-use Rattle.figures.proofs.Levels.{half-level, levels-end, levels-held-more, levels-live-more, levels-next, levels-start}
+use Rattle.figures.proofs.Levels.{accesses-next, levels-end, levels-held-more, levels-live-more, levels-next, levels-start}
 use Rattle.figures.proofs.all_sums.Statement.{statement}
 use Rattle.figures.proofs.all_sums.Tie as tie
 
 abbrev Inv-loop : tie.InvT-loop
 Inv-loop t m spent₀ first₀ h₀ live₀ held₀ spent first h live held =
-    (h ≤ m + 1) × (h ≤ m → first ≡ 2 ^ (m - h)) × (live ≡ levelsSum (nodeLive t (2 ^ m)) m h) × (held ≡ levelsSum (nodeHeld t) m h) × (spent + (4 * first - 2) + 2 ≤ spent₀ + 4 * 2 ^ m)
+    (h ≤ m + 1) × (h ≤ m → first ≡ 2 ^ (m - h)) × (live ≡ levelsSum (nodeLive t (2 ^ m)) m h) × (held ≡ levelsSum (nodeHeld t) m h) × (spent ≤ spent₀ + 3 * 2 ^ m) × (h ≡ 0 → spent ≤ spent₀) × (0 < h → spent + (2 * first - 1) + 1 ≤ spent₀ + 3 * 2 ^ m)
 
 abbrev μ-loop : tie.MeasureT-loop
 μ-loop t m spent₀ first₀ h₀ live₀ held₀ spent first h live held = m + 1 - h
@@ -26,7 +27,7 @@ loop-holds : tie.Need-loop-holds Inv-loop μ-loop
 loop-holds c =
     let start = c .before .before in
     let first = c .page-count .ensures in
-    (omega arith, λ b. first ∙ ap (λ (x : ℕ). 2 ^ x) (omega arith), levels-start _ _, levels-start _ _, omega (arith, pow-pos (start .args .m)))
+    (omega arith, λ b. first ∙ ap (λ (x : ℕ). 2 ^ x) (omega arith), levels-start _ _, levels-start _ _, omega arith, (λ z. omega arith), λ p. absurd (omega arith))
 
 level-sums-requires : tie.Need-level-sums-requires Inv-loop μ-loop
 level-sums-requires c κs =
@@ -63,12 +64,15 @@ loop-again c =
     let head = c .before .before .before .before .before .loop in
     let level = c .before .before .level-sums in
     let low : head .h ≤ start .args .m = omega arith in
-    let first = head .inv .1 low in (
+    let first = head .inv .1 low in
+    let left = accesses-next (start .args .m) (head .h) _ _ _ _ first (head .inv .5) (head .inv .6) (level .ensures .1 .1 .0) (level .ensures .1 .1 .1) in (
       omega arith,
-      λ b. half-level (start .args .m) (head .h) (head .first) b first,
+      λ b. half-power (start .args .m) (head .h) (head .first) (omega arith) first,
       levels-next _ _ _ _ _ _ first (head .inv .2) (level .ensures .0),
       levels-next _ _ _ _ _ _ first (head .inv .3) (level .ensures .1 .0),
-      omega (arith, level .ensures .1 .1, head .inv .4, pow-pos (start .args .m - head .h)),
+      omega (arith, left),
+      (λ z. absurd (omega arith)),
+      λ p. left,
     )
 
 returns : tie.Need-returns Inv-loop μ-loop
@@ -77,7 +81,7 @@ returns c =
     let head = c .before .loop in
     let z : head .h ≡ start .args .m + 1 = omega arith in
     let held = levels-end _ _ _ _ z (head .inv .3) in
-    (levels-end _ _ _ _ z (head .inv .2), (held, (rw held (levels-held-le _ _ _ (omega arith)), omega (arith, head .inv .4))))
+    (levels-end _ _ _ _ z (head .inv .2), (held, (rw held (levels-held-le _ _ _ (omega arith)), omega (arith, head .inv .6 (omega arith)))))
 
 pub all-sums-spec : {M : Type 1} → statement M
 all-sums-spec =

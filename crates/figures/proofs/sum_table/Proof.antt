@@ -1,5 +1,5 @@
 -- `figures::sum_table` meets its contract: the sums and the root's room make the answer. Assumes nothing.
-use Prim.Native.Nat.{_*_, _+_}
+use Prim.Native.Nat.{_+_}
 use borrow.Author.Needs.{needs}
 use denote.Ref.{now}
 use lib.Pow.{pow-mono, pow-pos}
@@ -37,7 +37,7 @@ returns c =
     let start = c .before .before .before .before .before .before .before .before .before in
     let sums = c .before .before .before .before .before .before .all-sums .ensures in
     let get = c .before .before .before .before .get in
-    summed (start .args .m) (2 * need (start .args .m)) (now (start .args .t)) _ _ _ _ _ _ _ _ (omega (arith, sums .1 .1 .1, get .ensures .1)) (sums .0) (sums .1 .0) (get .ensures .0) (c .before .before .room-of .ensures) (c .before .room-bytes .ensures) (c .grant .ensures)
+    summed (start .args .m) (need (start .args .m)) (now (start .args .t)) _ _ _ _ _ _ _ _ (omega (arith, sums .1 .1 .1, get .ensures .1)) (sums .0) (sums .1 .0) (get .ensures .0) (c .before .before .room-of .ensures) (c .before .room-bytes .ensures) (c .grant .ensures)
 
 pub sum-table-spec : {M : Type 1} → statement M
 sum-table-spec =

@@ -1,5 +1,5 @@
 -- `give_back::cell_left` meets its contract: whether all slots of the page are open. Assumes nothing.
-use mathlib.Core.Path.{_∙_, ap, refl}
+use mathlib.Core.Path.{_∙_, ap}
 use borrow.Author.Needs.{needs}
 use borrow.Author.Tests.{eq-eqb, ne-eqb}
 use native.Mathlib.Omega.{arith}

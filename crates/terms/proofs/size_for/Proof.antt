@@ -1,6 +1,6 @@
 -- `terms::size_for` meets its contract. The loop's invariant: `c` is the number of a size, and each size before it is too small.
 -- The measure is what is left of the ten sizes. Assumes nothing.
-use Prim.Native.Nat.{_+_, _-_, _<_, ℕ}
+use Prim.Native.Nat.{_-_, _<_, ℕ}
 use borrow.Author.Count.{below-more}
 use borrow.Author.Needs.{needs}
 use native.Mathlib.Omega.{arith}
