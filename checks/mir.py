@@ -21,10 +21,12 @@ def parse(text):
 
 def walk(node):
     """Every list below a node, and the node itself."""
-    if isinstance(node, list):
-        yield node
-        for part in node:
-            yield from walk(part)
+    ahead = [node]
+    while ahead:
+        one = ahead.pop()
+        if isinstance(one, list):
+            yield one
+            ahead.extend(reversed(one))
 
 
 def items(node):
@@ -37,10 +39,10 @@ def items(node):
 
 
 def functions(mir):
-    """The functions of a program: (name, body)."""
+    """The functions of a program: (name, body); the body has, after the code, the fields of the structs that its types name."""
     for node in walk(parse(mir)):
         if len(node) >= 3 and node[0] == "fn-def":
-            yield node[1].strip('"'), node[2]
+            yield node[1].strip('"'), node[2] + node[3:]
 
 
 def kinds(body):
@@ -53,9 +55,14 @@ def parameters(body):
     return [str(number) for number in range(1, int(body[3]) + 1)]
 
 
+def named(node):
+    """Every place below a node, as it is printed."""
+    return [one for one in walk(node) if len(one) == 3 and one[0] == "place"]
+
+
 def places(node):
     """Every place below a node: (local, steps)."""
-    return [(one[1], items(one[2])) for one in walk(node) if len(one) == 3 and one[0] == "place"]
+    return [(one[1], items(one[2])) for one in named(node)]
 
 
 def place_of(operand):
@@ -74,6 +81,11 @@ def local_of(operand):
 def assigns(body):
     """The assignments of a function: (target, value)."""
     return [(node[1], node[2]) for node in walk(body) if len(node) == 3 and node[0] == "assign"]
+
+
+def addressed(body):
+    """The locals whose address, or the address of a part of them, is taken."""
+    return {value[1][1] for _, value in assigns(body) if value[0] == "addrOf"}
 
 
 def calls(body):

@@ -1,5 +1,7 @@
 """Our own checks, after `rt ci`. Each prints a line; the last line is 'N passed, M failed'."""
 import functools
+import itertools
+import re
 import subprocess
 import sys
 import tempfile
@@ -7,12 +9,14 @@ from pathlib import Path
 
 sys.dont_write_bytecode = True
 ROOT = Path(__file__).resolve().parent.parent
-sys.path.insert(0, str(ROOT / "checks"))
+sys.path[:0] = [str(ROOT / "checks"), str(ROOT / "tests")]
 
 import accesses  # noqa: E402
 import claims  # noqa: E402
 import counts  # noqa: E402
 import mir  # noqa: E402
+import needed  # noqa: E402
+import scripts  # noqa: E402
 
 
 def claims_hold():
@@ -54,14 +58,19 @@ def layout_kept():
     return [] if run.returncode == 0 else (run.stdout + run.stderr).split("\n")[:8] or ["rt fmt --check failed"]
 
 
+def has_hole(line):
+    """Whether a line of antt has a hole, named or not, or an axiom."""
+    code = line.split("--")[0]
+    return "{!" in code or any(word.startswith("?") or word == "axiom" for word in re.split(r"[\s(){}\[\],;]+", code))
+
+
 def no_holes():
     """No file of antt has a hole or an axiom of its own."""
-    wrong = []
+    wrong = [f"not seen: {line}" for line in ("a = ?", "a = ?h", "a = f (?h) {?}", "a = {! x !}", "axiom a : A") if not has_hole(line)]
+    wrong += [f"seen: {line}" for line in ("a = head? l", "a = b -- why?", "axioms = a") if has_hole(line)]
     for file in sorted(ROOT.glob("crates/**/*.antt")):
-        for number, line in enumerate(file.read_text().split("\n"), 1):
-            code = line.split("--")[0]
-            if any(word == "?" or word.startswith("{!") or word == "axiom" for word in code.replace("(", " ").replace(")", " ").split()):
-                wrong.append(f"{file.relative_to(ROOT)}:{number}: {line.strip()}")
+        lines = enumerate(file.read_text().split("\n"), 1)
+        wrong += [f"{file.relative_to(ROOT)}:{number}: {line.strip()}" for number, line in lines if has_hole(line)]
     return wrong
 
 
@@ -88,64 +97,88 @@ def code_of(sample):
         return code(folder, "sample")
 
 
-# The lists of requests and of answers are slices of u64 too. Two functions of `sequence` reach their elements, and are lent these lists alone:
-# the callers, each with the numbers of its parameters that are such lists. The table is none of them.
-LIST_FUNCTIONS = {"sequence::number_at", "sequence::store_reply"}
-LISTS = {"sequence::all_known": {"1"}, "sequence::serve": {"3", "4"}}
-# The player is the host that lends the table, and no part of the library: it fills a table with garbage and flips bits on purpose.
-HOST_FUNCTIONS = {"breatharena::play::fill", "breatharena::play::flip"}
+# The functions that make an access to the table each; `cells::count` counts it.
+ACCESSES = {"cells::get", "cells::put"}
+# The lists of requests and of answers are slices of u64 too: the functions of `sequence` that have such lists, and the names of the parameters that are.
+# Two of these functions reach elements, those of their list alone. The table is none of these parameters.
+LISTS = {
+    "number_at": {"list"},
+    "store_reply": {"answers"},
+    "all_known": {"requests"},
+    "can_serve": {"requests"},
+    "serve": {"requests", "answers"},
+    "serve_both": {"requests", "a", "b"},
+}
+# The player is the host that lends the table, and no part of the library: it has the table, fills it with garbage and flips bits on purpose.
+HOST_FUNCTIONS = {"breatharena::play_input", "breatharena::play::fill", "breatharena::play::flip"}
+
+
+def all_code():
+    """The functions of all crates, each with its body."""
+    return {name: body for crate in crates() for name, body in code(ROOT, crate).items()}
+
+
+def source_of(name):
+    """The source text that a function stands in."""
+    return (ROOT / "crates" / name.split("::")[0] / "src/lib.rt").read_text()
+
+
+def lists():
+    """The functions that have lists of requests or answers, each with the numbers of the parameters that are."""
+    source = source_of("sequence")
+    return {f"sequence::{function}": {str(number) for number, name in enumerate(needed.names(source, function), 1) if name in ones}
+            for function, ones in LISTS.items()}
 
 
 def accesses_counted():
     """Only cells::get and cells::put reach an element of a slice of u64, one each, but for the lists of requests and answers."""
-    wrong = []
-    for crate in crates():
-        for name, body in code(ROOT, crate).items():
-            right = 1 if name in ("cells::get", "cells::put") else 0
-            if accesses.reached(body) != right and name not in LIST_FUNCTIONS | HOST_FUNCTIONS:
-                wrong.append(f"{name} reaches {accesses.reached(body)} elements of a slice of u64")
-            if right and any(node[0] == "loop" for node in mir.walk(body)):
-                wrong.append(f"{name} has a loop")
-            wrong += [f"{name} lends a slice of u64 to {one}" for one in accesses.lent_outside(body, crates())]
-            for callee in LIST_FUNCTIONS:
-                for lent in accesses.lent_to(body, callee):
-                    if not lent or not lent <= LISTS.get(name, set()):
-                        wrong.append(f"{name} lends {callee} something else than a list of requests or answers")
-    return wrong
+    return accesses.faults(all_code(), ACCESSES, lists(), HOST_FUNCTIONS, crates())
+
+
+def differences(said, faults):
+    """Where what a check said of its example is not what is to be said of it."""
+    wrong = [f"{name}: not said: {fault}" for name, fault in faults.items() if not any(one.startswith(f"sample::{name} ") and fault in one for one in said)]
+    return wrong + [f"said: {one}" for one in said if one.split()[0].removeprefix("sample::") not in faults]
 
 
 def access_check_catches():
-    """The check of accesses catches a function that reads, writes or lends an element, and takes one that only makes a part."""
-    bodies = {name.split("::")[1]: body for name, body in code_of(accesses.SAMPLE).items()}
-    wrong = [f"{name}: {accesses.reached(body)}" for name, body in bodies.items() if accesses.reached(body) != accesses.REACHED.get(name)]
-    if bodies.keys() != accesses.REACHED.keys():
-        wrong.append(f"the functions of the example are {sorted(bodies)}")
-    if list(accesses.lent_to(bodies["lends_a_part"], "sample::count")) != [{"1"}]:
-        wrong.append("lends_a_part: the list that it lends is not seen")
-    if list(accesses.lent_outside(bodies["lends_a_part"], {"sample"})) or list(accesses.lent_outside(bodies["lends_a_part"], {"other"})) != ["sample::count"]:
+    """The check of accesses catches each function of its example that reaches elements or hides a slice, and no other."""
+    bodies = code_of(accesses.SAMPLE)
+    gets = {name for name in bodies if name.startswith("sample::gets")}
+    wrong = differences(accesses.faults(bodies, gets, accesses.SAMPLE_LISTS, set(), {"sample"}), accesses.FAULTS)
+    if list(accesses.lent_outside(bodies["sample::lends_a_part"], {"other"})) != ["sample::count"]:
         wrong.append("lends_a_part: to whom it lends is not seen")
     return wrong
 
 
 def part_of(name):
-    """The part that a function plays in counting accesses."""
+    """The part that a function plays in counting accesses; sequence::serve_both hands out no count (docs/CLAIMS.md)."""
     crate = name.split("::")[0]
-    parts = {"arena": "opens", "sequence": "adds", "capi": "asks"} | dict.fromkeys(crates()["arena"], "counts")
-    return parts.get(crate, crate)
+    parts = {"arena": "opens", "sequence": "adds", "capi": "asks", "sequence::serve_both": "none"} | dict.fromkeys(crates()["arena"], "counts")
+    return parts.get(name) or parts.get(crate, crate)
 
 
 def counts_kept():
     """The number of accesses that a request hands out is the count that cells::get and cells::put kept."""
-    bodies = {name: body for crate in crates() for name, body in code(ROOT, crate).items()}
-    return counts.faults(bodies, part_of, "cells::count", "arena::Counted")
+    return counts.faults(all_code(), part_of, "cells::count", ACCESSES, {"arena::Counted", "sequence::Served"})
 
 
 def count_check_catches():
     """The check of counts catches each function of its example that counts wrongly, and no other."""
-    bodies = code_of(counts.SAMPLE)
-    said = counts.faults(bodies, lambda name: name.split("::")[1].split("_")[0], "sample::counts_one", "sample::Counted")
-    wrong = [f"{name}: not said: {fault}" for name, fault in counts.FAULTS.items() if not any(one.startswith(f"sample::{name} ") and fault in one for one in said)]
-    return wrong + [f"said: {one}" for one in said if one.split()[0].split("::")[1] not in counts.FAULTS]
+    said = counts.faults(code_of(counts.SAMPLE), lambda name: name.split("::")[1].split("_")[0], "sample::counts_one", {"sample::counts_get"},
+                         {"sample::Counted", "sample::Summed"})
+    return differences(said, counts.FAULTS)
+
+
+def only_needed_lent():
+    """A request lends the functions that count exactly the needed cells, as their contracts ask; a contract that does not ask it is seen."""
+    bodies = all_code()
+    wrong = needed.faults(bodies, part_of, source_of)
+    for what, old, new in needed.EDITS:
+        said = needed.faults(bodies, part_of, lambda name: source_of(name).replace(old, new) if part_of(name) == "counts" else source_of(name))
+        if len(said) != 6:
+            wrong.append(f"not seen in all six requests: {what}")
+    return wrong
 
 
 def says(command, **words):
@@ -195,13 +228,26 @@ def player_agrees():
     return says(["python3", "-B", "tests/play.py", "./breatharena"])
 
 
+def worked_rows():
+    """The rows of document 01's section 6 with the model's answers, in words: number, request, answer, bytes live, bytes held, room."""
+    lines = [line for line in scripts.worked_run().lines if line.request[0] in ("take", "give", "figures")]
+    return [f"{number} {asked.text} {asked.expected} {figures.expected}".split() for number, (asked, figures) in enumerate(zip(lines[::2], lines[1::2]), 1)]
+
+
+def worked_faults(printed):
+    """Where a printed table of the worked run has another row than the model."""
+    rows = [line.split() for line in printed.strip().split("\n")[1:]]
+    return [f"printed: {row}, by the model: {right}" for row, right in itertools.zip_longest(rows, worked_rows()) if row != right]
+
+
 def worked_run_printed():
-    """The worked run, as tools/worked-run prints it, has the 21 lines of document 01's section 6."""
+    """The worked run, as tools/worked-run prints it, has the 21 rows of document 01's section 6 with the model's answers; another number is seen."""
     run = subprocess.run(["tools/worked-run"], cwd=ROOT, capture_output=True, text=True)
-    rows = [line.split() for line in run.stdout.strip().split("\n")[1:]]
-    numbers = [row[0] for row in rows]
-    last = rows[-1] if rows else []
-    return [] if numbers == [str(n) for n in range(1, 22)] and last[-3:] == ["8192", "8192", "0"] else run.stdout.split("\n") + run.stderr.split("\n")
+    wrong = worked_faults(run.stdout)
+    wrong += run.stderr.split("\n") if wrong else []
+    others = [f"{run.stdout[:one.start()]}{int(one.group()) + 1}{run.stdout[one.end():]}" for one in re.finditer(r"\d+", run.stdout)]
+    wrong += [f"not seen that this is wrong: {other}" for other in (*others, run.stdout.rsplit("\n", 2)[0]) if not worked_faults(other)]
+    return wrong + ([f"the model's run has {len(worked_rows())} rows"] if len(worked_rows()) != 21 else [])
 
 
 def readme_example_holds():
@@ -218,7 +264,7 @@ def readme_example_holds():
     return wrong
 
 
-CHECKS = [claims_hold, claims_check_catches, layout_kept, no_holes, accesses_counted, access_check_catches, counts_kept, count_check_catches, model_tested, tests_catch, c_example_runs, c_interface_agrees, player_agrees, worked_run_printed, readme_example_holds]
+CHECKS = [claims_hold, claims_check_catches, layout_kept, no_holes, accesses_counted, access_check_catches, counts_kept, count_check_catches, only_needed_lent, model_tested, tests_catch, c_example_runs, c_interface_agrees, player_agrees, worked_run_printed, readme_example_holds]
 
 
 def main():

@@ -78,6 +78,10 @@ PLAYER_FAULTS = (
     ('a table lent whole again is new',
      '            return None\n        word',
      '            self.arena.live = {}\n            return None\n        word'),
+    ('arena lends the whole table again', 'Arena(numbers[0], self.lent(numbers[0]))', 'Arena(numbers[0])'),
+    ('arena forgets the costs',
+     'self.arena, self.flips = Arena(numbers[0]',
+     'self.cost = [0, 0, 0]\n            self.arena, self.flips = Arena(numbers[0]'),
     ('an offset beyond the arena after a fault',
      'return answer_text(request, values)',
      "return f'{self.arena.bytes}' if self.flips and request == ('take', 16) else answer_text(request, values)"),
@@ -161,8 +165,9 @@ def few_scripts():
     for m in range(4):
         yield from (scripts.mixed(m, seed) for seed in range(20))
         yield from (scripts.faults(m, seed) for seed in range(4))
-        yield from (scripts.twins(m, 0, 20), scripts.blanks(m, tabs=False), scripts.blanks(m, tabs=True), scripts.short_table(m))
-    yield from (scripts.garbage(M_MOST), scripts.short_table(M_MOST))
+        yield from (scripts.twins(m, 0, 20), scripts.blanks(m, tabs=False), scripts.blanks(m, tabs=True))
+        yield from (scripts.short_table(m), scripts.short_over_arenas(m))
+    yield from (scripts.garbage(M_MOST), scripts.short_table(M_MOST), scripts.short_over_arenas(M_MOST))
 
 
 def player_finding(folder, few):

@@ -21,21 +21,27 @@ FORMS = {'arena': 1, 'start': 0, 'take': 1, 'give': 1, 'which': 1, 'figures': 0,
 
 class Player:
     def __init__(self):
+        self.short = False
         self.arena = Arena(0)
         self.flips = []
         self.cost = [0, 0, 0]
 
+    def lent(self, m):
+        """How many cells are lent for m. `arena` changes nothing of it, nor of the cost."""
+        return cells_needed(m) - self.short
+
     def serve(self, words):
         """The answer to one request, or None if it has no answer line; ValueError if it is none."""
         if words in (['table', 'short'], ['table', 'whole']):
-            self.arena.cells = cells_needed(self.arena.m) - (words[1] == 'short')
+            self.short = words[1] == 'short'
+            self.arena.cells = self.lent(self.arena.m)
             return None
         word, *numbers = words
         if FORMS.get(word) != len(numbers) or not all(re.fullmatch('[0-9]+', n) and int(n) < 2**64 for n in numbers):
             raise ValueError
         numbers = [int(n) for n in numbers]
         if word == 'arena':
-            self.arena, self.flips = Arena(numbers[0]), []
+            self.arena, self.flips = Arena(numbers[0], self.lent(numbers[0])), []
         elif word == 'flip':
             self.flips.append(numbers)
         elif word == 'cost':

@@ -2,10 +2,12 @@
 
 Run: python3 tests/play.py PLAYER [ARGUMENT ..]
 
-Many scripts go through one process, since `arena` and `start` begin anew: one process for each m, so that its cost lines can be held
-against that m. Prints one summary line; on a difference the script's name and the first differing line, and exit 1.
+Many scripts go through one process, since `arena` and `start` begin anew. The costs go on, and so does what is lent. So there is one
+process for each m, with the scripts whose largest m it is, and its cost lines are held against that m; and every script ends with the
+whole table lent. Prints one summary line; on a difference the script's name and the first differing line, and exit 1.
 """
 
+import itertools
 import re
 import subprocess
 import sys
@@ -47,7 +49,6 @@ def play(command, text):
 
 def cost_bounds(m):
     """The most cells that one take, give back and which may read or write (docs/TABLE.md, the walks)."""
-    m = min(m, M_MOST)
     return 3 * (m + 1) + 2, 2 * (m + 1) + 2, max(m + 1, 2)
 
 
@@ -72,14 +73,14 @@ def right_form(line, text):
     return word == 'checkup' and text in ('sound', 'unsound')
 
 
-def right_cost(line, text):
-    """Whether a cost line's three numbers are within the bounds."""
+def right_cost(m, text):
+    """Whether a cost line's three numbers are within the bounds for m."""
     found = re.fullmatch(f'{NUMBER} {NUMBER} {NUMBER}', text)
-    return bool(found) and all(int(cost) <= most for cost, most in zip(found.groups(), cost_bounds(line.m)))
+    return bool(found) and all(int(cost) <= most for cost, most in zip(found.groups(), cost_bounds(m)))
 
 
-def right_answer(line, got):
-    """Whether a whole answer line is as it should be."""
+def right_answer(line, got, m):
+    """Whether a whole answer line is as it should be, in a process with this largest m."""
     request = ' '.join(map(str, line.request))
     if not got.startswith(request + ': '):
         return False
@@ -87,47 +88,47 @@ def right_answer(line, got):
     if line.expected == ANY:
         return right_form(line, text)
     if line.expected == COST:
-        return right_cost(line, text)
+        return right_cost(m, text)
     return text == line.expected
 
 
-def compare(script, got):
-    """Compare the answer lines `got` with the script's; raise Wrong at the first that differs."""
+def compare(script, got, m):
+    """Compare the answer lines `got` with the script's, in a process with this largest m; raise Wrong at the first that differs."""
     got = iter(got)
     for number, line in enumerate(script.lines, 1):
         if line.expected is None:
             continue
         answer = next(got, None)
-        if answer is None or not right_answer(line, answer):
+        if answer is None or not right_answer(line, answer, m):
             raise Wrong(f'script {script.name}, line {number} ({line.text.strip()}): expected {line.expected}, got {answer!r}')
 
 
 def play_group(command, m, scripts):
     """Play all scripts of one m in one process."""
     end = Script('end', m)
-    end.ask_all((('start',), ('take', 1), ('which', 0), ('give', 0)) if m <= M_MOST else ())
+    end.ask_all((('start',), ('take', 1), ('which', 0), ('give', 0)))
     end.close()
     scripts = [*scripts, end]
     got, messages, code = play(command, ''.join(line.text + '\n' for script in scripts for line in script.lines))
     at = 0
     for script in scripts:
         answers = sum(line.expected is not None for line in script.lines)
-        compare(script, got[at:at + answers])
+        compare(script, got[at:at + answers], m)
         at += answers
     if len(got) != at:
         raise Wrong(f'm = {m}: {len(got) - at} lines more than there are answers, first {got[at]!r}')
     if code != 0:
         raise Wrong(f'm = {m}: exit code {code} {messages.strip()}')
-    if m <= M_MOST and '0' in got[-1].split()[1:]:
+    if '0' in got[-1].split()[1:]:
         raise Wrong(f'm = {m}: {got[-1]!r} counts no access')
     return at
 
 
 def groups(scripts):
-    """The scripts by their m, small ones first; all that are refused together."""
+    """The scripts by the largest m in them that is not refused, small ones first."""
     by_m = {}
     for script in scripts:
-        by_m.setdefault(min(script.lines[0].m, M_MOST + 1), []).append(script)
+        by_m.setdefault(max(line.m for line in script.lines if line.m <= M_MOST), []).append(script)
     return sorted(by_m.items())
 
 
@@ -146,8 +147,25 @@ def play_bad_line(command, bad):
         raise Wrong(f'bad line {bad!r}: no message names line {number}: {rest} {messages!r}')
 
 
+def play_costs(command):
+    """The costs are since the player began: `arena` forgets none of them, and none grows smaller."""
+    served = 'start\ntake 1\nwhich 0\ngive 0\n'
+    text = 'arena 3\nstart\ntake 1\n' + ''.join(f'cost\narena {m}\ncost\n{served}' for m in (0, M_MOST + 1, 5, 1)) + 'cost\n'
+    got = [line for line in play(command, text)[0] if line.startswith('cost:')]
+    found = [re.fullmatch(f'cost: {NUMBER} {NUMBER} {NUMBER}', line) for line in got]
+    if len(found) != 9 or None in found:
+        raise Wrong(f'nine cost lines are answered {got}')
+    costs = [tuple(map(int, one.groups())) for one in found]
+    if costs[0][0] == 0 or costs[0][1:] != (0, 0):
+        raise Wrong(f'after one take: {got[0]!r}')
+    if costs[0:8:2] != costs[1:8:2]:
+        raise Wrong(f'arena changes the costs: {got}')
+    if any(new < old for before, after in itertools.pairwise(costs) for old, new in zip(before, after)):
+        raise Wrong(f'a cost grows smaller: {got}')
+
+
 def play_edges(command):
-    """A script from a file, an empty one, and one whose last line has no end."""
+    """A script from a file, an empty one, one whose last line has no end, and the costs over several arenas."""
     text = 'arena 1\nstart\ntake 1025\nfigures'
     answers = ['start: done', 'take 1025: 0', 'figures: 2048 2048 0']
     with tempfile.NamedTemporaryFile('w', suffix='.txt') as file:
@@ -163,6 +181,7 @@ def play_edges(command):
     got = play(command, 'cost\n')[0]
     if got != ['cost: 0 0 0']:
         raise Wrong(f'cost before any request: {got}')
+    play_costs(command)
 
 
 def play_all(command, scripts, bad_lines):

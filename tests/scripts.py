@@ -44,22 +44,27 @@ class Script:
         self.name = name
         self.rng = rng or random.Random(name)
         self.lines = []
+        self.short = False
         self.set_arena(m)
 
     def add(self, request, expected, text=None):
         self.lines.append(Line(text or ' '.join(map(str, request)), request, expected, self.arena.m))
 
+    def lent(self, m):
+        """How many cells are lent for m: as many as are needed, one less while the table is lent short."""
+        return cells_needed(m) - self.short
+
     def set_arena(self, m):
-        """`arena M`: the table holds garbage from here on."""
-        self.arena = Arena(m)
+        """`arena M`: the table holds garbage from here on. Lent short before, it is lent short still."""
+        self.arena = Arena(m, self.lent(m))
         self.damaged = True
         self.add(('arena', m), None)
 
-    def lend(self, how):
-        """`table short` or `table whole`."""
-        needed = cells_needed(self.arena.m)
-        self.arena.cells = needed - 1 if how == 'short' else needed
-        self.add(('table', how), None)
+    def lend(self, how, text=None):
+        """`table short` or `table whole`: from here on, over every `arena`."""
+        self.short = how == 'short'
+        self.arena.cells = self.lent(self.arena.m)
+        self.add(('table', how), None, text)
 
     def flip(self, cell, bit):
         """`flip CELL BIT`."""
@@ -82,7 +87,8 @@ class Script:
             self.ask(*request)
 
     def close(self):
-        """What stands at the end of every script: the figures, check-up, the cost."""
+        """What stands at the end of every script: the figures, check-up, the cost. The next script counts on a table lent whole."""
+        assert not self.short
         self.ask('figures')
         self.ask('checkup')
         self.add(('cost',), COST)
@@ -277,6 +283,28 @@ def short_table(m):
     return script.close()
 
 
+def short_over_arenas(m):
+    """A table lent short stays short over every `arena`, until `table whole`; one lent whole stays whole."""
+    script = started(f'short-over-arenas-m{m}', m)
+    numbers = (0, 1, 512, PAGE << m, (PAGE << m) + 1, MOST)
+    for last in (m, 0, M_MOST + 1, m // 2, MOST, m):
+        script.lend('short')
+        for other in (m // 2, M_MOST + 1, m, last):
+            script.set_arena(other)
+            refused_requests(script, numbers)
+        script.lend('whole')
+        if last > M_MOST:
+            refused_requests(script, numbers)
+            script.set_arena(m)
+        script.run(4)
+        script.ask('start')
+        script.run(12, 0.8)
+        script.set_arena(m // 2)
+        script.ask('start')
+        script.run(12, 0.8)
+    return script.close()
+
+
 def refused_m(seed):
     """Refusal 6 before all others, also with a short table; afterwards a small arena works."""
     script = Script(f'refused-m-{seed}', 13)
@@ -393,11 +421,9 @@ def blanks(m, tabs):
             script.add(('nothing',), None, rng.choice((' ', '    ', '#', '# take 100', '   # start', '#take 1')))
         request = some_request(rng, script.arena)
         script.ask(*request, text=written(request))
-    script.add(('table', 'short'), None, '  table    short  # from here on')
-    script.arena.cells -= 1
+    script.lend('short', text='  table    short  # from here on')
     script.ask('take', 1, text='take   1')
-    script.add(('table', 'whole'), None, 'table  whole#')
-    script.arena.cells += 1
+    script.lend('whole', text='table  whole#')
     return script.close()
 
 
@@ -418,7 +444,7 @@ def all_scripts():
     for m in range(3):
         yield sequences(m, 4)
     for m in range(M_MOST + 1):
-        yield from (limits(m), short_table(m), garbage(m))
+        yield from (limits(m), short_table(m), short_over_arenas(m), garbage(m))
     for m in range(4, M_MOST):
         yield from (mixed(m, seed) for seed in range(5))
         yield from (twins(m, seed, 40) for seed in range(2))

@@ -32,7 +32,7 @@ not-started m t r e f z = absurd (f (table-refused m (length t) start e f ∙ z)
 pub started : {m : ℕ} (t : List ℕ) (s : Suits m (length t)) (k : ℕ) (e : k ≡ need m) (p : List ℕ) (r : Reply) → length p ≡ length (front k t) → asAnswer r ≡ done → Stands m [] p → Promised m start t (p ++ drop k t) r × Started m t (p ++ drop k t) r
 unfolding answer after
 started {m} t s k e p r l d x =
-    (served t s k e p l r (argument-at-once t start s ∙ no-argument m .0) (granted (result r d refl)) (λ L y. (d, x)), λ z. (d, whole-stands t s k e p l x))
+    (served t s k e p l r (argument-at-once t start s ∙ no-argument m .0) (granted (result r d refl) d) (λ L y. (d, x)), λ z. (d, whole-stands t s k e p l x))
 
 -- ---- take
 
@@ -46,8 +46,8 @@ took-inside {m} n r (nothing e f) z = none-taken m n r e (omega arith) z
 took-inside {m} n r (taken e f) z = f
 
 took-settled : {m n x : ℕ} {p p′ : List ℕ} (r : Reply) → TookForm m x p p′ r → Settled (take n) p p′ r
-took-settled r (nothing e f) = refused-later e f
-took-settled r (taken e f) = granted (result r e refl)
+took-settled r (nothing e f) = refused-later (omega arith) e f
+took-settled r (taken e f) = granted (result r e refl) e
 
 module _ (m n : ℕ) (L : Live) (z : n ≡ 0 → ⊥) (b : n ≤ arena m) where
   -- the answer and the live blocks afterwards, where the argument is not refused
@@ -70,8 +70,8 @@ take-served {m} {n} t s k e p r z b w = (
 -- ---- give back
 
 gave-settled : {o : ℕ} {p p′ : List ℕ} (r : Reply) → GaveForm p p′ r → Settled (giveBack o) p p′ r
-gave-settled r (kept e f) = refused-later e f
-gave-settled r (given e) = granted (result r e refl)
+gave-settled r (kept e f) = refused-later (omega arith) e f
+gave-settled r (given e) = granted (result r e refl) e
 
 -- what give back promises
 pub give-served : {m o c x y : ℕ} (t : List ℕ) (s : Suits m (length t)) (k : ℕ) (e : k ≡ need m) (p : List ℕ) (r : Reply) → o < arena m → Gave m c o (front k t) p r x y → Promised m (giveBack o) t (p ++ drop k t) r

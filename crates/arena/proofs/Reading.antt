@@ -24,13 +24,13 @@ use Rattle.arena.specs.Promises.{Exact, InOrder, RefusalAlone, ToldInsid
 -- what figures promise
 pub figures-served : {m c x y : ℕ} (t : List ℕ) (s : Suits m (length t)) (k : ℕ) (e : k ≡ need m) (r : Reply) → Summed m c (front k t) r x y → Promised m figures t t r
 unfolding after
-figures-served {m} t s k e r w = served-reading t s k e r (argument-at-once t figures s ∙ no-argument m .1) (granted (ap (λ (a : Answer). a .refusal) (w .form))) (λ L g. (w .right L g, g))
+figures-served {m} t s k e r w = served-reading t s k e r (argument-at-once t figures s ∙ no-argument m .1) (granted (ap (λ (a : Answer). a .refusal) (w .form)) (w .form)) (λ L g. (w .right L g, g))
 
 -- ---- which
 
 told-settled : {m o : ℕ} {p : List ℕ} (r : Reply) → Form m o r → Settled (which o) p p r
-told-settled r (nothing e) = refused-later e refl
-told-settled r (told e a b c) = granted (ap (λ (a : Answer). a .refusal) e)
+told-settled r (nothing e) = refused-later (omega arith) e refl
+told-settled r (told e a b c) = granted (ap (λ (a : Answer). a .refusal) e) e
 
 -- a refusal tells of no block
 pub none-told : {m o n : ℕ} (r : Reply) → asAnswer r ≡ refused n → 0 < n → ToldInside m o r
@@ -73,14 +73,14 @@ check-refused m t r {n} g f e =
 pub check-served : {m : ℕ} {ok : Bool} (t : List ℕ) (s : Suits m (length t)) (k : ℕ) (e : k ≡ need m) (r : Reply) → Checked m (front k t) ok → asAnswer r ≡ cond ok sound unsound → Verdict m t r
 check-served {m} t s k e r (passed y L x) a =
     let b : asAnswer r ≡ sound = rw y at a in
-    let f : Settled checkUp t t r = granted (ap (λ (v : Answer). v .refusal) b) in record {
+    let f : Settled checkUp t t r = granted (ap (λ (v : Answer). v .refusal) b) (inl b) in record {
       in-order = settled-in-order (argument-at-once t checkUp s ∙ no-argument m .2) f;
       alone = settled-alone (λ z. z) f;
       exact = record { verdict = λ z. inl b; says-sound = λ z. (L, part-stands t s k e x); is-sound = λ X z. b };
     }
 check-served {m} t s k e r (failed y g) a =
     let b : asAnswer r ≡ unsound = rw y at a in
-    let f : Settled checkUp t t r = granted (ap (λ (v : Answer). v .refusal) b) in record {
+    let f : Settled checkUp t t r = granted (ap (λ (v : Answer). v .refusal) b) (inr b) in record {
       in-order = settled-in-order (argument-at-once t checkUp s ∙ no-argument m .2) f;
       alone = settled-alone (λ z. z) f;
       exact = record {

@@ -106,7 +106,7 @@ number-of r e = ap (λ (a : Answer). a .refusal) e
 -- what is promised of a refusal that comes at once
 refused-at-once : {m n : ℕ} {q : Request} {t : List ℕ} (r : Reply) → n ≡ atOnce t m q → 0 < n → asAnswer r ≡ refused n → Promised m q t t r
 refused-at-once {m} {n} {q} {t} r g p e = record {
-  in-order = record { at-once = λ x. e ∙ ap refused g; or-later = λ x. absurd (omega arith) };
+  in-order = record { at-once = λ x. e ∙ ap refused g; or-later = λ x. absurd (omega arith); formed = λ x. absurd (omega (arith, number-of r e)) };
   alone = record { values = λ x. e ∙ ap refused (sym (number-of r e)); cells = λ x. refl };
   kept = record { long = refl; beyond = refl };
   right = λ L s.

@@ -2,7 +2,7 @@
 use mathlib.Core.Path.{_∙_, _≡_, ap, refl, subst, sym}
 use mathlib.Core.Logic.{inl, inr}
 use mathlib.Core.List.{List, _++_}
-use Prim.Native.Nat.{ℕ}
+use Prim.Native.Nat.{_<_, ℕ}
 use lib.ListN.{drop, length, take, take-append-drop}
 use lib.Seq.{drop-at, length-front, length-take-le, take-at}
 use native.Mathlib.Omega.{arith}
@@ -13,22 +13,22 @@ use Rattle.table.specs.Table.{Stands, need}
 use Rattle.terms.specs.Reply.{asAnswer}
 use Rattle.terms.specs.declared.Reply.{Reply}
 use Rattle.arena.proofs.Refused.{Promised, Suits, number-of}
-use Rattle.arena.specs.Promises.{InOrder, Kept, RefusalAlone, Right, atOnce, later}
+use Rattle.arena.specs.Promises.{Formed, InOrder, Kept, RefusalAlone, Right, atOnce, later}
 
 -- what is answered where nothing is refused at once: the later refusal, with the table as it was, or a result
 pub data Settled (q : Request) (t t′ : List ℕ) (r : Reply) : Type 0 where
-  refused-later : asAnswer r ≡ refused (later q) → t′ ≡ t → Settled q t t′ r
-  granted : r .refusal ≡ 0 → Settled q t t′ r
+  refused-later : 0 < later q → asAnswer r ≡ refused (later q) → t′ ≡ t → Settled q t t′ r
+  granted : r .refusal ≡ 0 → Formed q r → Settled q t t′ r
 
 -- the refusals are in order
 pub settled-in-order : {m : ℕ} {q : Request} {t p p′ : List ℕ} {r : Reply} → atOnce t m q ≡ 0 → Settled q p p′ r → InOrder m q t r
-settled-in-order {r = r} z (refused-later e f) = record { at-once = λ x. absurd (omega arith); or-later = λ x. inr (number-of r e) }
-settled-in-order z (granted e) = record { at-once = λ x. absurd (omega arith); or-later = λ x. inl e }
+settled-in-order {r = r} z (refused-later p e f) = record { at-once = λ x. absurd (omega arith); or-later = λ x. inr (number-of r e); formed = λ x. absurd (omega (arith, number-of r e)) }
+settled-in-order z (granted e g) = record { at-once = λ x. absurd (omega arith); or-later = λ x. inl e; formed = λ x. g }
 
 -- a refusal stands alone, if the whole is as it was where the part is
 pub settled-alone : {q : Request} {t t′ p p′ : List ℕ} {r : Reply} → (p′ ≡ p → t′ ≡ t) → Settled q p p′ r → RefusalAlone t t′ r
-settled-alone {r = r} w (refused-later e f) = record { values = λ x. e ∙ ap refused (sym (number-of r e)); cells = λ x. w f }
-settled-alone w (granted e) = record { values = λ x. absurd (omega arith); cells = λ x. absurd (omega arith) }
+settled-alone {r = r} w (refused-later p e f) = record { values = λ x. e ∙ ap refused (sym (number-of r e)); cells = λ x. w f }
+settled-alone w (granted e g) = record { values = λ x. absurd (omega arith); cells = λ x. absurd (omega arith) }
 
 module _ {m : ℕ} (t : List ℕ) (s : Suits m (length t)) (k : ℕ) (e : k ≡ need m) where
   -- the part has as many cells as are needed

@@ -5,7 +5,7 @@ use mathlib.Core.List.{List, []}
 use Prim.Native.Nat.{_+_, _<_, _≤_, ℕ}
 use lib.Dec.{leb}
 use lib.ListN.{drop, length}
-use Rattle.meaning.specs.Answers.{Request, after, answer, checkUp, done, figures, giveBack, refused, refusedAtOnce, sizeGiven, sound, start, take, unsound, which}
+use Rattle.meaning.specs.Answers.{Request, after, answer, checkUp, done, figures, found, giveBack, offset, refused, refusedAtOnce, sizeGiven, sound, start, take, three, unsound, which}
 use Rattle.meaning.specs.Blocks.{Live, arena}
 use Rattle.table.specs.Table.{Stands, need}
 use Rattle.terms.specs.Reply.{asAnswer}
@@ -24,10 +24,21 @@ later (take n) = 3
 later (giveBack o) = 4
 later (which o) = 4
 
--- the refusals are tried in document 01's order: 6, 5, those of the argument, and last the one that depends on the live blocks
+-- an answer of the request's form: it has the values that the request tells, and 0 for the others; check-up tells 1 or 0
+abbrev pub Formed : Request → Reply → Type 0
+Formed start r = asAnswer r ≡ done
+Formed figures r = asAnswer r ≡ three (r .first) (r .second) (r .third)
+Formed checkUp r = (asAnswer r ≡ sound) ⊎ (asAnswer r ≡ unsound)
+Formed (take n) r = asAnswer r ≡ offset (r .first)
+Formed (giveBack o) r = asAnswer r ≡ done
+Formed (which o) r = asAnswer r ≡ found (record { start = r .first; size = r .second })
+
+-- the refusals are tried in document 01's order: 6, 5, those of the argument, and last the one that depends on the live blocks; what is not refused is
+-- answered in the request's form
 pub record InOrder (m : ℕ) (q : Request) (t : List ℕ) (r : Reply) : Type 0 where
   pub at-once : 0 < atOnce t m q → asAnswer r ≡ refused (atOnce t m q)
   pub or-later : atOnce t m q ≡ 0 → (r .refusal ≡ 0) ⊎ (r .refusal ≡ later q)
+  pub formed : r .refusal ≡ 0 → Formed q r
 
 -- beside a refusal number every value is 0, and every cell is as it was
 pub record RefusalAlone (t t′ : List ℕ) (r : Reply) : Type 0 where

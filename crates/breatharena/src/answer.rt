@@ -76,7 +76,7 @@ fn put_verdict(out: &mut [u8], waiting: usize, sound: u64) -> usize {
     }
 }
 
-// The answer line of `cost`: the most accesses that one request of each kind has made.
+// The answer line of `cost`: the most accesses that one request of each kind has made since the player began.
 pub fn cost(line: &mut [u8], out: &mut [u8], run: Run) -> Run {
     let reply = Reply {
         refusal: 0,

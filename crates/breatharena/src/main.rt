@@ -1,5 +1,5 @@
 // The player: reads a script from the file that its one argument names, or from standard input, plays each line over
-// the arena's table, and writes the answers to standard output. DESIGN, section 7, has the lines and their answers.
+// the arena's table, and writes the answers to standard output. docs/PLAYER.md has the lines and their answers.
 //
 // A program has no exit status. A line that is no request stops the player with a message on standard output, after all
 // earlier answers. A file that cannot be read, and output that cannot be written, are told on standard error.
@@ -37,8 +37,8 @@ fn play_some(
     out: &mut [u8],
     run: Run,
 ) -> Run {
-    let mut chunk = io::large_buffer();
-    let got = libc::read(fd, &mut chunk);
+    let mut piece = io::large_buffer();
+    let got = libc::read(fd, &mut piece);
     if got < 0 {
         os::fail(name);
         return run.stopped();
@@ -47,8 +47,8 @@ fn play_some(
         let last = last_line(line, table, out, run);
         return output::written(out, last);
     }
-    let n = io::count(got, &chunk);
-    let played = feed(&chunk[..n], line, table, out, run);
+    let n = io::count(got, &piece);
+    let played = feed(&piece[..n], line, table, out, run);
     output::written(out, played)
 }
 

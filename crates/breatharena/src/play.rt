@@ -79,7 +79,7 @@ fn play(line: &mut [u8], table: &mut [u64], out: &mut [u8], run: Run) -> Run {
     }
 }
 
-// `arena M`: the table holds garbage until the next start.
+// `arena M`: all cells that m needs hold garbage until the next start, also where one of them is not lent.
 fn new_arena(table: &mut [u64], run: Run, m: u64) -> Run {
     let n = lent(table, m, false);
     fill(&mut table[..n]);

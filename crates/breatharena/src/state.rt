@@ -10,7 +10,7 @@ pub struct Run {
     pub m: u64,
     // Whether the table is lent one cell too short.
     pub short: bool,
-    // The most accesses that one request of each kind has made since the last arena line.
+    // The most accesses that one request of each kind has made since the player began.
     pub take: u64,
     pub give: u64,
     pub which: u64,
@@ -53,17 +53,13 @@ impl Run {
         self
     }
 
-    // An arena of 2^m pages from here on, its table lent whole, and no request made.
+    // An arena of 2^m pages from here on. A table lent short stays short, and the costs go on.
     pub fn in_arena(mut self, m: u64) -> Self {
         self.m = m;
-        self.short = false;
-        self.take = 0;
-        self.give = 0;
-        self.which = 0;
         self
     }
 
-    // The table lent one cell too short, or whole, from here on.
+    // The table lent one cell too short, or whole, from here on, in every arena.
     pub fn lending(mut self, short: bool) -> Self {
         self.short = short;
         self

@@ -1,15 +1,25 @@
 -- What the library promises of its reply r, the C function promises of what it hands back, s. Assumes nothing.
-use mathlib.Core.Path.{_∙_, _≡_, ap, refl, subst, sym}
+use mathlib.Core.Path.{_∙_, _≡_, ap, ap₂, refl, subst, sym}
 use mathlib.Core.Logic.{_⊎_, inl, inr}
 use mathlib.Core.List.{List}
 use Prim.Native.Nat.{_<_, suc, zero, ℕ}
 use native.Mathlib.Omega.{arith}
-use Rattle.arena.specs.Promises.{Exact, InOrder, RefusalAlone, Right, Started, atOnce, later}
-use Rattle.meaning.specs.Answers.{Answer, Request, checkUp, refused, sound, start, unsound}
+use Rattle.arena.specs.Promises.{Exact, Formed, InOrder, RefusalAlone, Right, Started, atOnce, later}
+use Rattle.meaning.specs.Answers.{Answer, Request, checkUp, figures, found, giveBack, offset, refused, sound, start, take, unsound, which}
 use Rattle.terms.specs.Reply.{asAnswer}
 use Rattle.terms.specs.declared.Reply.{Reply}
 use Rattle.capi.proofs.Shown.{shown, shown-answer, shown-number, shown-refused}
 use Rattle.capi.specs.Said.{said}
+
+-- the form is kept
+said-formed : (q : Request) (r s : Reply) → asAnswer s ≡ shown q (asAnswer r) → Formed q r → Formed q s
+said-formed start r s e f = e ∙ ap (shown start) f
+said-formed figures r s e f = ap (λ (n : ℕ). record { refusal = n; first = s .first; second = s .second; third = s .third }) (ap (λ (a : Answer). a .refusal) (e ∙ f))
+said-formed checkUp r s e (inl f) = inl (e ∙ ap (shown checkUp) f)
+said-formed checkUp r s e (inr f) = inr (e ∙ ap (shown checkUp) f)
+said-formed (take n) r s e f = e ∙ (ap (shown (take n)) f ∙ ap offset (sym (ap (λ (a : Answer). a .first) e)))
+said-formed (giveBack o) r s e f = e ∙ ap (shown (giveBack o)) f
+said-formed (which o) r s e f = let g = e ∙ ap (shown (which o)) f in g ∙ ap₂ (λ (x y : ℕ). found (record { start = x; size = y })) (sym (ap (λ (a : Answer). a .first) e)) (sym (ap (λ (a : Answer). a .second) e))
 
 module _ (q : Request) (r s : Reply) (same : asAnswer s ≡ shown q (asAnswer r)) where
   -- the numbers are the same
@@ -25,6 +35,7 @@ module _ (q : Request) (r s : Reply) (same : asAnswer s ≡ shown q (asAnswer r)
   said-in-order {m} {t} w = record {
     at-once = λ x. said-refused (w .at-once x);
     or-later = λ x. subst (λ (n : ℕ). (n ≡ 0) ⊎ (n ≡ later q)) (sym said-number) (w .or-later x);
+    formed = λ x. said-formed q r s same (w .formed (sym said-number ∙ x));
   }
 
   -- beside a refusal number every value is 0, and every cell is as it was

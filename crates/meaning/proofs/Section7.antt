@@ -2,7 +2,7 @@
 use mathlib.Core.Path.{_≡_, refl}
 use mathlib.Core.List.{List, [], _++_, _∷_}
 use Rattle.meaning.proofs.Played.{at, leaves, played, takenOf, times}
-use Rattle.meaning.specs.Answers.{Request, done, figures, found, giveBack, offset, refused, take, three, which}
+use Rattle.meaning.specs.Answers.{Answer, Request, done, figures, found, giveBack, offset, refused, take, three, which}
 
 -- two pages side by side that are no aligned pair
 pub neighbours-not-buddies : played 2 (times 4 (take 1000) (giveBack 1024 ∷ giveBack 2048 ∷ take 2000 ∷ figures ∷ []))
@@ -48,7 +48,14 @@ pub same-live-blocks : leaves 3 first-history ≡ leaves 3 second-history
 unfolding leaves first-history second-history
 same-live-blocks = refl
 
--- and are then answered alike, here as everywhere (proofs/Histories.antt)
-pub same-afterwards : played 3 (first-history ++ (take 8000 ∷ take 4096 ∷ take 2048 ∷ figures ∷ [])) ≡ offset 0 ∷ offset 1024 ∷ done ∷ refused 3 ∷ offset 4096 ∷ offset 2048 ∷ three 6160 7168 1024 ∷ []
-unfolding played first-history
-same-afterwards = refl
+-- and are then answered alike, here as everywhere (`same-future` in crates/laws)
+unfoldable pub both-then : List Request
+both-then = take 8000 ∷ take 4096 ∷ take 2048 ∷ figures ∷ []
+
+unfoldable pub both-answered : List Answer
+both-answered = refused 3 ∷ offset 4096 ∷ offset 2048 ∷ three 6160 7168 1024 ∷ []
+
+pub same-afterwards : (played 3 (first-history ++ both-then) ≡ offset 0 ∷ offset 1024 ∷ done ∷ both-answered)
+    × (played 3 (second-history ++ both-then) ≡ offset 0 ∷ done ∷ offset 0 ∷ offset 1024 ∷ offset 2048 ∷ offset 1040 ∷ done ∷ done ∷ done ∷ both-answered)
+unfolding played first-history second-history both-then both-answered
+same-afterwards = (refl, refl)

@@ -1,5 +1,5 @@
 // What a line of a script for the player is, without input or output: from a line's bytes to its kind and its numbers,
-// and from a number to its digits. DESIGN, section 7, has the lines.
+// and from a number to its digits. docs/PLAYER.md has the lines.
 mod number;
 mod words;
 

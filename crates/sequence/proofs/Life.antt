@@ -2,7 +2,7 @@
 use mathlib.Core.Path.{_≡_, refl, subst, sym}
 use mathlib.Core.Logic.{_⊎_}
 use mathlib.Core.Bool.{true}
-use mathlib.Core.List.{List, List·Memᴰ, [], _++_}
+use mathlib.Core.List.{List, List·Memᴰ, [], _++_, _∷_}
 use Prim.Native.Nat.{_%_, _≤_, ℕ}
 use lib.ListN.{length, take as firstOf}
 use Rattle.arena.specs.Promises.{Exact, atOnce}
@@ -10,7 +10,7 @@ use Rattle.laws.proofs.Apart.{Disjoint, live-aligned, live-apart, live-inside}
 use Rattle.laws.proofs.Exactly.{Given, Taken, give-back-removes, take-adds}
 use Rattle.laws.proofs.Histories.{afterAll-append, always-allowed}
 use Rattle.laws.proofs.Refusals.{refused-only-if-none}
-use Rattle.meaning.specs.Answers.{Request, answer, checkUp, done, giveBack, offset, refused, sound, start, take}
+use Rattle.meaning.specs.Answers.{Request, after, answer, checkUp, done, giveBack, offset, refused, sound, start, take}
 use Rattle.meaning.specs.Blocks.{Allowed, Block, Live, alignment, allowed-none, arena, ends, mMost}
 use Rattle.meaning.specs.Candidates.{Candidate}
 use Rattle.meaning.specs.Runs.{afterAll}
@@ -20,7 +20,7 @@ use Rattle.terms.specs.Reply.{asAnswer}
 use Rattle.terms.specs.declared.Reply.{Reply}
 use Rattle.sequence.proofs.Alike.{same-cells}
 use Rattle.sequence.specs.Numbers.{beginsWithStart, requestsOf}
-use Rattle.sequence.specs.Serving.{Serves}
+use Rattle.sequence.specs.Serving.{Promised, Serves}
 
 -- ---- of the definitions
 
@@ -59,15 +59,20 @@ every-moment m rs =
 
 -- ---- of the code
 
--- t is the table of a unit that has been served the requests rs by calls of `serve`, the first of which began with a start that was not refused
+-- t is the table of a unit that has been served the requests rs, by calls of `serve` or one at a time, the first of which was a start that was not refused
 pub data Lived (m : ℕ) : List Request → List ℕ → Type 0 where
   born : (requests t t′ a′ : List ℕ) → beginsWithStart requests ≡ true → atOnce t m start ≡ 0 → Serves m requests t t′ a′ → Lived m (requestsOf requests) t′
   lived : (rs : List Request) (requests t t′ a′ : List ℕ) → Lived m rs t → Serves m requests t t′ a′ → Lived m (rs ++ requestsOf requests) t′
+  began : (t t′ : List ℕ) (r : Reply) → atOnce t m start ≡ 0 → Promised m start t t′ r → Lived m (start ∷ []) t′
+  asked : (rs : List Request) (q : Request) (t t′ : List ℕ) (r : Reply) → Lived m rs t → Promised m q t t′ r → Lived m (rs ++ (q ∷ [])) t′
 
 -- the table stands for the live blocks of the run
 pub lived-stands : {m : ℕ} {rs : List Request} {t : List ℕ} → Lived m rs t → Stands m (afterAll m [] rs) t
+unfolding afterAll after
 lived-stands (born requests t t′ a′ b o s) = s .from-start b o .1
 lived-stands {m} (lived rs requests t t′ a′ l s) = subst (λ (L : Live). Stands m L t′) (sym (afterAll-append m [] rs (requestsOf requests))) (s .right (afterAll m [] rs) (lived-stands l) .1)
+lived-stands (began t t′ r o p) = p .own o .1
+lived-stands {m} (asked rs q t t′ r l p) = subst (λ (L : Live). Stands m L t′) (sym (afterAll-append m [] rs (q ∷ []))) (p .right (afterAll m [] rs) (lived-stands l) .1)
 
 -- so a check-up says sound
 pub lived-sound : {m : ℕ} {rs : List Request} {t : List ℕ} {r : Reply} → Lived m rs t → Exact m t r → asAnswer r ≡ sound

@@ -81,7 +81,7 @@ module _ {m : ℕ} (t : List ℕ) {r : Reply} (large : mMost < m) (e : asAnswer 
 
   pub one-large-m : (q : Request) → Promised m q t t r
   one-large-m q = record {
-    in-order = record { at-once = λ z. rw (large-m t q large) e; or-later = λ z. absurd (omega (arith, large-m t q large)) };
+    in-order = record { at-once = λ z. rw (large-m t q large) e; or-later = λ z. absurd (omega (arith, large-m t q large)); formed = λ z. absurd (omega (arith, six)) };
     alone = record { values = λ z. e ∙ ap refused (sym six); cells = λ z. refl };
     kept = kept-same m t;
     own = own-large-m q;

@@ -1,4 +1,4 @@
-/* The C interface as in DESIGN.md section 7, only for building the test double fake.c. The project's is include/breatharena.h. */
+/* The C interface, only for building the test double fake.c. The project's is include/breatharena.h. */
 #ifndef BREATHARENA_H
 #define BREATHARENA_H
 #include <stddef.h>
