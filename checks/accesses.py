@@ -67,6 +67,12 @@ pub fn lends_an_array() -> usize {
     count(&a)
 }
 
+pub fn lends_an_array_and_reads(t: &[u64]) -> u64 {
+    let a: [u64; 4] = [1, 2, 3, 4];
+    let n = count(&a);
+    if n < t.len() { t[n] } else { 0 }
+}
+
 pub fn lends_an_array_at_times(t: &[u64]) -> usize {
     let a: [u64; 4] = [1, 2, 3, 4];
     let mut u = t;
@@ -217,6 +223,7 @@ FAULTS = {
     "lends": "reaches 1 elements",
     "lends_a_part_and_reads": "reaches 1 elements",
     "lends_an_array": "has a slice of u64 that is no part of one that came in",
+    "lends_an_array_and_reads": "reaches 1 elements",
     "lends_an_array_at_times": "has a slice of u64 that is no part of one that came in",
     "reads_behind": "has a slice of u64 below the top of a type",
     "writes_behind": "has a slice of u64 below the top of a type",

@@ -172,6 +172,12 @@ pub fn opens_nothing_and_tells_five(n: u64) -> Counted {
     Counted { reply: x, spent: spent }
 }
 
+pub fn opens_from_a_number(n: u64) -> Counted {
+    let mut spent = n;
+    let x = counts_get(n, &mut spent);
+    Counted { reply: x, spent: spent }
+}
+
 pub fn opens_around_another(n: u64) -> Counted {
     let one = opens_rightly(n);
     Counted { reply: one.reply, spent: 0 }
@@ -229,6 +235,41 @@ pub fn opens_and_copies_on_one_way(n: u64) -> Counted {
         copy = spent;
     }
     Counted { reply: x, spent: copy }
+}
+
+pub fn opens_and_sets_a_copy(n: u64) -> Counted {
+    let mut spent: u64 = 0;
+    let x = counts_get(n, &mut spent);
+    let mut copy = spent;
+    copy = 3;
+    Counted { reply: x, spent: copy }
+}
+
+pub fn opens_and_calls_for_a_copy(n: u64) -> Counted {
+    let mut spent: u64 = 0;
+    let x = counts_get(n, &mut spent);
+    let mut copy = spent;
+    copy = counts_of(n);
+    Counted { reply: x, spent: copy }
+}
+
+pub fn opens_and_tells_none_of_the_rounds(n: u64) -> Counted {
+    let mut spent: u64 = 0;
+    let mut i: u64 = 0;
+    while i < n {
+        i = i + 1 + counts_get(n, &mut spent);
+    }
+    Counted { reply: i, spent: 0 }
+}
+
+pub fn opens_and_tells_of_before_the_rounds(n: u64) -> Counted {
+    let mut spent: u64 = 0;
+    let mut i = counts_get(n, &mut spent);
+    let before = spent;
+    while i < n {
+        i = i + 1 + counts_get(n, &mut spent);
+    }
+    Counted { reply: i, spent: before }
 }
 
 pub fn opens_and_leaves_a_round(n: u64) -> Counted {
@@ -438,6 +479,22 @@ pub fn adds_two_for_one(n: u64) -> Counted {
     Counted { reply: one.reply, spent: spent }
 }
 
+pub fn adds_over_one(n: u64) -> Counted {
+    let mut spent: u64 = 0;
+    let mut one = opens_rightly(n);
+    one = opens_rightly(n);
+    spent = spent + one.spent;
+    Counted { reply: one.reply, spent: spent }
+}
+
+pub fn adds_what_a_call_says(n: u64) -> Counted {
+    let mut spent: u64 = 0;
+    let one = opens_rightly(n);
+    spent = spent + one.spent;
+    spent = counts_of(spent);
+    Counted { reply: one.reply, spent: spent }
+}
+
 pub fn adds_and_lends_elsewhere(n: u64) -> Counted {
     let mut spent: u64 = 0;
     let one = opens_rightly(n);
@@ -587,6 +644,7 @@ FAULTS = {
     "counts_not": "calls a function that counts, and does not count itself",
     "opens_and_then_not": "returns something else than its count",
     "opens_nothing_and_tells_five": "returns something else than its count",
+    "opens_from_a_number": "changes its count",
     "opens_around_another": "calls sample::opens_rightly, which counts apart",
     "opens_after_another": "calls sample::opens_rightly, which counts apart",
     "opens_through_another": "calls sample::asks_once, which counts apart",
@@ -595,6 +653,10 @@ FAULTS = {
     "opens_and_empties_a_copy": "returns something else than its count",
     "opens_on_one_way": "returns something else than its count",
     "opens_and_copies_on_one_way": "returns something else than its count",
+    "opens_and_sets_a_copy": "returns something else than its count",
+    "opens_and_calls_for_a_copy": "returns something else than its count",
+    "opens_and_tells_none_of_the_rounds": "returns something else than its count",
+    "opens_and_tells_of_before_the_rounds": "returns something else than its count",
     "opens_and_leaves_a_round": "returns something else than its count",
     "opens_and_tells_none": "returns something else than its count",
     "opens_and_tells_none_once": "returns something else than its count",
@@ -614,6 +676,8 @@ FAULTS = {
     "adds_what_may_be_none": "adds a count on one way only",
     "adds_nothing_for_one": "changes a reply whose count is to be added",
     "adds_two_for_one": "changes a reply whose count is to be added",
+    "adds_over_one": "loses a count at the call of sample::opens_rightly",
+    "adds_what_a_call_says": "loses a count at the call of sample::counts_of",
     "adds_and_lends_elsewhere": "returns something else than its count",
     "adds_and_empties_a_copy": "returns something else than its count",
     "adds_and_lends_a_reply": "returns without adding a count",
@@ -865,7 +929,7 @@ def faults(bodies, part_of, counter, accesses, replies):
         elif called & counting and part != "opens":
             found.append("calls a function that counts, and does not count itself")
         elif part in ("opens", "adds") and name in hidden | replying:
-            found += Handing(body, counting, hidden & replying if part == "adds" else set(), replying, replies).faults()
+            found += Handing(body, counting, hidden & replying, replying, replies).faults()
         elif returns(body, replies):
             found.append("returns a reply with its count, and neither opens a count nor adds counts up")
         elif part == "asks" and requests_made(name, bodies, hidden, part_of) > 1:
