@@ -1,8 +1,8 @@
-"""Outside the crate `cells` no function reads or writes an element of a slice of u64: so no access to the table goes round the count.
+"""No function but `cells::get` and `cells::put` reads or writes an element of a slice of u64: so no access to the table goes round the count.
 
 Works on what `rt mir NAME` prints, the code as it is proved and compiled. There an element of a slice is reached by `offset` from the
 slice's pointer, its field 0, and then by a `deref`. A part of a slice is made by `offset` too, and is not dereferenced. So that no element is
-reached in another way, a slice of u64 stands nowhere but in a local or a parameter of its own, and each is one that came in or a part of it.
+reached in another way, a slice of u64 stands nowhere but in a local or a parameter of its own, and is one that came in or a part of it.
 """
 from mir import assigns, calls, items, kinds, local_of, named, parameters, place_of, walk
 

@@ -4,7 +4,7 @@ The contracts say that `cells::count` adds one, and they bound the number that a
 counts on this one number, or that it is the number handed out. These rules over what `rt mir NAME` prints say it:
 
 - A function that counts has one `&mut u64`, its last parameter. It does nothing with it but lend it on, as the last argument, to functions that
-  count, and lends such a function nothing else. (`cells::count` alone looks behind it, and is called where an access is made and nowhere else.)
+  count, and lends such a function nothing else. (`cells::count` alone looks behind it. Those that make an access, and no others, call it, once.)
 - A function that does not count, but calls one that does, opens a count: a local that is set to 0 once, before any such call, is lent as above and is
   otherwise only read. What the function returns after such a call is a reply with the local's last value as its second field. It calls no function
   that counts on another count.
@@ -20,6 +20,8 @@ from dataclasses import dataclass, replace
 from mir import addressed, assigns, callee, calls, items, kinds, local_of, parameters, place_of, places, walk
 
 NONE = ["int", "64", "0"]
+# the parts of a function: a function that is free makes requests and hands out no count
+PARTS = ("counts", "opens", "adds", "asks", "free")
 
 # an example for the check of this check; the first word of a name is the part that the function plays
 SAMPLE = """
@@ -47,6 +49,16 @@ pub fn counts_one(spent: &mut u64) {
 }
 
 pub fn counts_get(at: u64, spent: &mut u64) -> u64 {
+    counts_one(spent);
+    at
+}
+
+pub fn counts_get_for_nothing(at: u64, spent: &mut u64) -> u64 {
+    at
+}
+
+pub fn counts_get_for_two(at: u64, spent: &mut u64) -> u64 {
+    counts_one(spent);
     counts_one(spent);
     at
 }
@@ -628,9 +640,25 @@ pub fn asks_for_a_sum(n: u64) -> u64 {
 pub fn asks_and_hands_it_on(n: u64) -> Counted {
     opens_rightly(n)
 }
+
+pub fn free_to_ask(n: u64) -> bool {
+    let one = opens_rightly(n);
+    let two = adds_sums(one.reply);
+    two.last == 7
+}
+
+pub fn free_and_hands_it_on(n: u64) -> Counted {
+    opens_rightly(n)
+}
+
+pub fn helps(n: u64) -> u64 {
+    asks_once(n)
+}
 """
 # the functions of the example that are wrong, each with what is to be said of it
 FAULTS = {
+    "counts_get_for_nothing": "makes an access, and does not call sample::counts_one once",
+    "counts_get_for_two": "makes an access, and does not call sample::counts_one once",
     "counts_on_another": "lends sample::counts_get another count than its own",
     "counts_back": "looks at its count or changes it",
     "counts_by_its_count": "looks at its count or changes it",
@@ -693,6 +721,8 @@ FAULTS = {
     "asks_by_itself": "makes more than one request",
     "asks_for_a_sum": "makes more than one request",
     "asks_and_hands_it_on": "returns a reply with its count, and neither opens a count nor adds counts up",
+    "free_and_hands_it_on": "returns a reply with its count, and neither opens a count nor adds counts up",
+    "helps": "counts, and plays no part that is known",
 }
 
 
@@ -907,8 +937,8 @@ def requests_made(name, bodies, hidden, part_of, above=()):
 
 
 def faults(bodies, part_of, counter, accesses, replies):
-    """Faults of a program: its functions, the part that each plays (`counts`, `opens`, `adds`, `asks` or another), the function that looks behind
-    a count, the functions that make an access each, and the structs that are a reply with its count.
+    """Faults of a program: its functions, the part that each plays (of PARTS, where it counts), the function that looks behind a count, the functions
+    that make an access each, and the structs that are a reply with its count.
     """
     counting = counting_in(bodies, part_of)
     hidden = apart(bodies, counting)
@@ -922,6 +952,10 @@ def faults(bodies, part_of, counter, accesses, replies):
             found.append("calls a function that the call does not name")
         if counter in called and name not in accesses:
             found.append(f"calls {counter}, and makes no access")
+        if name in accesses and [one for one, _, _ in calls(body)] != [counter]:
+            found.append(f"makes an access, and does not call {counter} once and nothing else")
+        if name in hidden and part not in PARTS:
+            found.append("counts, and plays no part that is known")
         if part in ("counts", "opens", "adds"):
             found += [f"calls {one}, which counts apart" for one in sorted(called & hidden - (replying if part == "adds" else set()))]
         if name in counting:

@@ -88,6 +88,11 @@ def addressed(body):
     return {value[1][1] for _, value in assigns(body) if value[0] == "addrOf"}
 
 
+def changed(body):
+    """The locals that are set by an assignment or a call, or whose address is taken."""
+    return {target[1] for target, _ in assigns(body)} | {target[1] for _, _, target in calls(body)} | addressed(body)
+
+
 def calls(body):
     """The calls of a function: (name of the callee, arguments, target); the name is None where it is not written in the call."""
     for node in walk(body):

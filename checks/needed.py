@@ -7,7 +7,7 @@ import re
 
 from accesses import is_table
 from counts import counting_in
-from mir import addressed, assigns, calls, kinds, local_of, parameters
+from mir import calls, changed, kinds, local_of, parameters
 
 CLAUSE = "⌜ length (now t) ≡ need m ⌝"
 # where the words of the clause come from
@@ -20,6 +20,7 @@ EDITS = [
     ("a clause under a condition", CLAUSE, "⌜ (m ≡ 0 → length (now t) ≡ need m) ⌝"),
     ("a clause that is promised, not asked", "    requires ", "    ensures "),
     ("a clause in a comment", "    requires ", "    // requires "),
+    ("a clause in a long comment", "\n    requires ", "\n    /*\n    requires "),
     ("a need of another kind", "Table.{", "Other.{"),
     ("another m", "m: u64", "k: u64, m: u64"),
 ]
@@ -48,9 +49,10 @@ def tables(body):
 
 
 def asks(source, function):
-    """Whether a function asks for exactly the needed cells."""
+    """Whether a function asks for exactly the needed cells; a text with long comments, which could hide a clause, is not taken."""
     clauses = re.findall(r"^    requires (?:\w+ )?\{(.*)\}$", head(source, function), re.M)
-    return any(CLAUSE in map(str.strip, clause.split("∗")) for clause in clauses) and all(brought(source, word) == [whole] for word, whole in WORDS.items())
+    meant = all(brought(source, word) == [whole] for word, whole in WORDS.items())
+    return meant and "/*" not in source and any(CLAUSE in map(str.strip, clause.split("∗")) for clause in clauses)
 
 
 def passes_m(body, own, arguments, theirs):
@@ -58,7 +60,7 @@ def passes_m(body, own, arguments, theirs):
     if "m" not in own or "m" not in theirs:
         return False
     local = str(own.index("m") + 1)
-    return local_of(arguments[theirs.index("m")]) == local and local not in addressed(body) | {target[1] for target, _ in assigns(body)}
+    return local_of(arguments[theirs.index("m")]) == local and local not in changed(body)
 
 
 def faults(bodies, part_of, source_of):

@@ -99,8 +99,8 @@ def code_of(sample):
 
 # The functions that make an access to the table each; `cells::count` counts it.
 ACCESSES = {"cells::get", "cells::put"}
-# The lists of requests and of answers are slices of u64 too: the functions of `sequence` that have such lists, and the names of the parameters that are.
-# Two of these functions reach elements, those of their list alone. The table is none of these parameters.
+# The lists of requests and of answers are slices of u64 too: the functions of `sequence` that have such lists, and the names of the parameters that
+# are. Two of these functions reach elements, those of their list alone. The table is none of these parameters.
 LISTS = {
     "number_at": {"list"},
     "store_reply": {"answers"},
@@ -137,7 +137,8 @@ def accesses_counted():
 
 def differences(said, faults):
     """Where what a check said of its example is not what is to be said of it."""
-    wrong = [f"{name}: not said: {fault}" for name, fault in faults.items() if not any(one.startswith(f"sample::{name} ") and fault in one for one in said)]
+    wrong = [f"{name}: not said: {fault}" for name, fault in faults.items()
+             if not any(one.startswith(f"sample::{name} ") and fault in one for one in said)]
     return wrong + [f"said: {one}" for one in said if one.split()[0].removeprefix("sample::") not in faults]
 
 
@@ -152,9 +153,10 @@ def access_check_catches():
 
 
 def part_of(name):
-    """The part that a function plays in counting accesses; sequence::serve_both hands out no count (docs/CLAIMS.md)."""
+    """The part that a function plays in counting accesses; serve_both hands out no count (docs/CLAIMS.md), the player is no part of the library."""
     crate = name.split("::")[0]
-    parts = {"arena": "opens", "sequence": "adds", "capi": "asks", "sequence::serve_both": "none"} | dict.fromkeys(crates()["arena"], "counts")
+    parts = {"arena": "opens", "sequence": "adds", "sequence::serve_both": "free", "capi": "asks", "breatharena": "free"}
+    parts |= dict.fromkeys(crates()["arena"], "counts")
     return parts.get(name) or parts.get(crate, crate)
 
 
@@ -165,8 +167,9 @@ def counts_kept():
 
 def count_check_catches():
     """The check of counts catches each function of its example that counts wrongly, and no other."""
-    said = counts.faults(code_of(counts.SAMPLE), lambda name: name.split("::")[1].split("_")[0], "sample::counts_one", {"sample::counts_get"},
-                         {"sample::Counted", "sample::Summed"})
+    bodies = code_of(counts.SAMPLE)
+    gets = {name for name in bodies if name.startswith("sample::counts_get")}
+    said = counts.faults(bodies, lambda name: name.split("::")[1].split("_")[0], "sample::counts_one", gets, {"sample::Counted", "sample::Summed"})
     return differences(said, counts.FAULTS)
 
 
@@ -231,7 +234,8 @@ def player_agrees():
 def worked_rows():
     """The rows of document 01's section 6 with the model's answers, in words: number, request, answer, bytes live, bytes held, room."""
     lines = [line for line in scripts.worked_run().lines if line.request[0] in ("take", "give", "figures")]
-    return [f"{number} {asked.text} {asked.expected} {figures.expected}".split() for number, (asked, figures) in enumerate(zip(lines[::2], lines[1::2]), 1)]
+    pairs = enumerate(zip(lines[::2], lines[1::2]), 1)
+    return [f"{number} {asked.text} {asked.expected} {figures.expected}".split() for number, (asked, figures) in pairs]
 
 
 def worked_faults(printed):
