@@ -1,4 +1,6 @@
 // The six requests of document 01, on a table that the caller lends. No request asks anything of its caller: any numbers and any table may come in.
+#![tactic(auto)]
+
 ghost use Rattle.std.specs.Prelude.{◌≡◌, cond, ◌*◌, ◌+◌, ◌-◌, ◌^◌, ◌≤◌, max, leb, ltb};
 ghost use Rattle.meaning.specs.Blocks.{m_most};
 ghost use Rattle.meaning.specs.Answers.{check_up as ask_check_up, figures as ask_figures, give_back as ask_give_back, refused, start as ask_start, take as ask_take, which as ask_which};

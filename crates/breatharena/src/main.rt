@@ -3,6 +3,8 @@
 //
 // A program has no exit status. A line that is no request stops the player with a message on standard output, after all
 // earlier answers. A file that cannot be read, and output that cannot be written, are told on standard error.
+#![tactic(auto)]
+
 mod answer;
 mod output;
 mod play;

@@ -1,5 +1,7 @@
 // The C interface (include/breatharena.h): each function is a thin one over the library. A table comes as a pointer and the number of its cells.
 // Each returns 0 or the refusal number; on refusal every value handed back is 0. No function asks anything of its caller's numbers or cells.
+#![tactic(auto)]
+
 ghost use Rattle.std.specs.Prelude.{◌≡◌, cond, ltb};
 ghost use Rattle.meaning.specs.Answers.{check_up as ask_check_up, figures as ask_figures, give_back as ask_give_back, start as ask_start, take as ask_take, which as ask_which};
 ghost use Rattle.meaning.specs.Blocks.{m_most};

@@ -1,5 +1,7 @@
 // The cells of the table (docs/TABLE.md). The one crate that indexes the table, and the one that knows how a cell is packed.
 // "Section" is one of document 01.
+#![tactic(auto)]
+
 ghost use Rattle.std.specs.Prelude.{◌≡◌, cond, false, true, ◌+◌, ◌-◌, ◌<◌, ◌^◌, ◌≤◌, eqb, get_or, length, set};
 ghost use Rattle.std.specs.Int.Bits.{bit_or};
 ghost use Rattle.meaning.specs.Blocks.{size_count};

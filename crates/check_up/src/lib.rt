@@ -1,4 +1,6 @@
 // Check-up (document 01, section 3), on a table of exactly the cells needed: the local tests of docs/TABLE.md, level by level.
+#![tactic(auto)]
+
 ghost use Rattle.std.specs.Prelude.{◌≡◌, ◌*◌, ◌+◌, ◌-◌, ◌<◌, ◌≤◌, ◌^◌, length};
 ghost use Rattle.meaning.specs.Blocks.{m_most};
 ghost use Rattle.table.specs.Table.{need};
@@ -50,11 +52,11 @@ fn node_sound(h: u64, cell: u64, left: u64, right: u64) -> bool
 
 // The test of the node v of height h.
 fn sound_at(t: &[u64], m: u64, h: u64, v: usize, spent: &mut u64) -> bool
-    requires fact_1 { m ≤ m_most }
-    requires fact_2 { h ≤ m }
-    requires fact_3 { length t.now ≡ need m }
-    requires fact_4 { v < 2 * 2 ^ (m - h) }
-    requires fact_5 { spent.old < 2 ^ 31 }
+    requires m_in_range { m ≤ m_most }
+    requires h_in_range { h ≤ m }
+    requires whole_table { length t.now ≡ need m }
+    requires v_below { v < 2 * 2 ^ (m - h) }
+    requires few_spent { spent.old < 2 ^ 31 }
     ensures verdict { result ≡ sound_at t.now (2 ^ m) h v }
     ensures cost { spent.new ≤ spent.old + 3 }
     ensures cost_leaf { h ≡ 0 → spent.new ≤ spent.old + 2 }
@@ -71,11 +73,11 @@ fn sound_at(t: &[u64], m: u64, h: u64, v: usize, spent: &mut u64) -> bool
 
 // The tests of all nodes of height h, of which the first is `first`.
 fn level_sound(t: &[u64], m: u64, h: u64, first: usize, spent: &mut u64) -> bool
-    requires fact_1 { m ≤ m_most }
-    requires fact_2 { h ≤ m }
-    requires fact_3 { first ≡ 2 ^ (m - h) }
-    requires fact_4 { length t.now ≡ need m }
-    requires fact_5 { spent.old < 2 ^ 30 }
+    requires m_in_range { m ≤ m_most }
+    requires h_in_range { h ≤ m }
+    requires first_of_level { first ≡ 2 ^ (m - h) }
+    requires whole_table { length t.now ≡ need m }
+    requires few_spent { spent.old < 2 ^ 30 }
     ensures verdict { LevelChecked t.now (2 ^ m) h first (2 * first) result }
     ensures cost { spent.new ≤ spent.old + 3 * first }
     ensures cost_leaves { h ≡ 0 → spent.new ≤ spent.old + 2 * first }
@@ -92,9 +94,9 @@ fn level_sound(t: &[u64], m: u64, h: u64, first: usize, spent: &mut u64) -> bool
 
 // Whether the table is sound.
 pub fn check_table(t: &[u64], m: u64, spent: &mut u64) -> bool
-    requires fact_1 { m ≤ m_most }
-    requires fact_2 { length t.now ≡ need m }
-    requires fact_3 { spent.old < 2 ^ 20 }
+    requires m_in_range { m ≤ m_most }
+    requires whole_table { length t.now ≡ need m }
+    requires few_spent { spent.old < 2 ^ 20 }
     ensures verdict { Checked m t.now result }
     ensures cost { spent.new + 2 ≤ spent.old + 5 * 2 ^ m }
 {

@@ -155,14 +155,14 @@ larger_digit (suc zero) (suc (suc y)) p q = absurd (omega arith)
 larger_digit (suc (suc x)) y p q = absurd (omega arith)
 
 -- a digit of `bit_or` is 1 where one of the two is
-pub bit_or : (c a b : ℕ) → bit_at c (bit_or a b) ≡ bit_at c a || bit_at c b
+pub bit_at-bit_or : (c a b : ℕ) → bit_at c (bit_or a b) ≡ bit_at c a || bit_at c b
 unfolding bit_at
-bit_or zero a b =
+bit_at-bit_or zero a b =
     let e : bit_or a b % 2 ≡ max (a % 2) (b % 2) = omega (arith, or_step a b) in
     ap (λ (x : ℕ). eqb x 1) e ∙ larger_digit (a % 2) (b % 2) (omega arith) (omega arith)
-bit_or (suc c) a b =
+bit_at-bit_or (suc c) a b =
     let e : bit_or a b / 2 ≡ bit_or (a / 2) (b / 2) = omega (arith, or_step a b) in
-    ap (bit_at c) e ∙ bit_or c (a / 2) (b / 2)
+    ap (bit_at c) e ∙ bit_at-bit_or c (a / 2) (b / 2)
 
 -- a power has one digit 1
 pub bit_pow : (c x : ℕ) → bit_at c (2 ^ x) ≡ eqb c x

@@ -1,4 +1,6 @@
 // Figures (document 01, section 3), on a table of exactly the cells needed: a pass over all nodes, level by level.
+#![tactic(auto)]
+
 ghost use Rattle.std.specs.Prelude.{◌≡◌, ◌*◌, ◌+◌, ◌-◌, ◌<◌, ◌≤◌, ◌^◌, length};
 ghost use Rattle.meaning.specs.Blocks.{m_most, size_count, slots, small};
 ghost use Rattle.meaning.specs.Bytes.{total};
@@ -33,11 +35,11 @@ fn page_live(c: u64, bits: u64) -> u64
 
 // What the node v of height h adds.
 fn node_sums(t: &[u64], m: u64, h: u64, v: usize, spent: &mut u64) -> Sums
-    requires fact_1 { m ≤ m_most }
-    requires fact_2 { h ≤ m }
-    requires fact_3 { length t.now ≡ need m }
-    requires fact_4 { v < 2 * 2 ^ (m - h) }
-    requires fact_5 { spent.old < 2 ^ 31 }
+    requires m_in_range { m ≤ m_most }
+    requires h_in_range { h ≤ m }
+    requires whole_table { length t.now ≡ need m }
+    requires v_below { v < 2 * 2 ^ (m - h) }
+    requires few_spent { spent.old < 2 ^ 31 }
     ensures live { result.live ≡ node_live t.now (2 ^ m) h v }
     ensures held { result.held ≡ node_held t.now h v }
     ensures cost { spent.new ≤ spent.old + 1 + (1 - h) }
@@ -68,11 +70,11 @@ fn node_sums(t: &[u64], m: u64, h: u64, v: usize, spent: &mut u64) -> Sums
 
 // What the nodes of height h add, of which the first is `first`.
 fn level_sums(t: &[u64], m: u64, h: u64, first: usize, spent: &mut u64) -> Sums
-    requires fact_1 { m ≤ m_most }
-    requires fact_2 { h ≤ m }
-    requires fact_3 { first ≡ 2 ^ (m - h) }
-    requires fact_4 { length t.now ≡ need m }
-    requires fact_5 { spent.old < 2 ^ 30 }
+    requires m_in_range { m ≤ m_most }
+    requires h_in_range { h ≤ m }
+    requires first_of_level { first ≡ 2 ^ (m - h) }
+    requires whole_table { length t.now ≡ need m }
+    requires few_spent { spent.old < 2 ^ 30 }
     ensures live { result.live ≡ total (node_live t.now (2 ^ m) h) first first }
     ensures held { result.held ≡ total (node_held t.now h) first first }
     ensures cost { spent.new ≤ spent.old + 2 * first }
@@ -95,9 +97,9 @@ fn level_sums(t: &[u64], m: u64, h: u64, first: usize, spent: &mut u64) -> Sums
 
 // What all nodes add.
 fn all_sums(t: &[u64], m: u64, spent: &mut u64) -> Sums
-    requires fact_1 { m ≤ m_most }
-    requires fact_2 { length t.now ≡ need m }
-    requires fact_3 { spent.old < 2 ^ 20 }
+    requires m_in_range { m ≤ m_most }
+    requires whole_table { length t.now ≡ need m }
+    requires few_spent { spent.old < 2 ^ 20 }
     ensures live { result.live ≡ levels_sum (node_live t.now (2 ^ m)) m (m + 1) }
     ensures held { result.held ≡ levels_sum (node_held t.now) m (m + 1) }
     ensures few { result.held ≤ 2 ^ m * (m + 1) }
@@ -136,9 +138,9 @@ fn room_bytes(m: u64, room: u64) -> u64
 
 // Bytes live, bytes held, and the room.
 pub fn sum_table(t: &[u64], m: u64, spent: &mut u64) -> Reply
-    requires fact_1 { m ≤ m_most }
-    requires fact_2 { length t.now ≡ need m }
-    requires fact_3 { spent.old < 2 ^ 20 }
+    requires m_in_range { m ≤ m_most }
+    requires whole_table { length t.now ≡ need m }
+    requires few_spent { spent.old < 2 ^ 20 }
     ensures { Summed m (need m) t.now result spent.old spent.new }
 {
     let sums = all_sums(t, m, &mut *spent);

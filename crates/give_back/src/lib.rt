@@ -1,4 +1,6 @@
 // Give back (document 01, section 3), on a table of exactly the cells needed and at an offset of the arena.
+#![tactic(auto)]
+
 ghost use Rattle.std.specs.Prelude.{◌≡◌, cond, ◌*◌, ◌+◌, ◌-◌, ◌/◌, ◌<◌, ◌≤◌, ◌^◌, suc, eqb, get_or, length};
 ghost use Rattle.meaning.specs.Blocks.{arena, m_most, page_bytes, size_count, slots};
 ghost use Rattle.digits.specs.Digits.{ones};
@@ -15,14 +17,14 @@ use walks::{locate, map_of, node_above, put_leaf, put_node};
 
 // The large block of the node h levels above the leaf of the byte o, which has that tag, is free from now on if it starts at o.
 fn give_run(t: &mut [u64], m: u64, o: u64, leaf: usize, h: u64, spent: &mut u64) -> Reply
-    requires place_1 { m ≤ m_most }
-    requires place_2 { o < arena m }
-    requires place_3 { leaf ≡ 2 ^ m + o / page_bytes }
-    requires found_1 { h ≤ m }
-    requires found_2 { h ≡ located (suc m) t.old leaf 0 }
-    requires found_3 { tag_in (get_or t.old (above h leaf) 0) ≡ whole_tag }
-    requires table_1 { length t.old ≡ need m }
-    requires table_2 { spent.old < 2 ^ 21 }
+    requires m_in_range { m ≤ m_most }
+    requires o_in_arena { o < arena m }
+    requires leaf_of_o { leaf ≡ 2 ^ m + o / page_bytes }
+    requires h_in_range { h ≤ m }
+    requires located_at { h ≡ located (suc m) t.old leaf 0 }
+    requires block_tag { tag_in (get_or t.old (above h leaf) 0) ≡ whole_tag }
+    requires whole_table { length t.old ≡ need m }
+    requires few_spent { spent.old < 2 ^ 21 }
     ensures { Gave m (2 * (m - h) + 1) o t.old t.new result spent.old spent.new }
 {
     let v = node_above(leaf, h);
@@ -59,14 +61,14 @@ fn cell_left(c: u64, bits: u64) -> u64
 
 // The slot that starts at o is not live from now on, if there is one and it is live; its page serves size number c.
 fn give_slot(t: &mut [u64], m: u64, o: u64, leaf: usize, c: u64, spent: &mut u64) -> Reply
-    requires place_1 { m ≤ m_most }
-    requires place_2 { o < arena m }
-    requires place_3 { leaf ≡ 2 ^ m + o / page_bytes }
-    requires found_1 { c < size_count }
-    requires found_2 { 0 ≡ located (suc m) t.old leaf 0 }
-    requires found_3 { tag_in (get_or t.old leaf 0) ≡ c + 1 }
-    requires table_1 { length t.old ≡ need m }
-    requires table_2 { spent.old < 2 ^ 21 }
+    requires m_in_range { m ≤ m_most }
+    requires o_in_arena { o < arena m }
+    requires leaf_of_o { leaf ≡ 2 ^ m + o / page_bytes }
+    requires c_in_range { c < size_count }
+    requires located_at { 0 ≡ located (suc m) t.old leaf 0 }
+    requires page_tag { tag_in (get_or t.old leaf 0) ≡ c + 1 }
+    requires whole_table { length t.old ≡ need m }
+    requires few_spent { spent.old < 2 ^ 21 }
     ensures { Gave m (2 * m + 3) o t.old t.new result spent.old spent.new }
 {
     let size = small_size(c);
@@ -96,10 +98,10 @@ fn give_slot(t: &mut [u64], m: u64, o: u64, leaf: usize, c: u64, spent: &mut u64
 
 // The block that starts exactly at o is no longer live.
 pub fn give_block(t: &mut [u64], m: u64, o: u64, spent: &mut u64) -> Reply
-    requires fact_1 { o < arena m }
-    requires fact_2 { m ≤ m_most }
-    requires fact_3 { length t.old ≡ need m }
-    requires fact_4 { spent.old < 2 ^ 20 }
+    requires o_in_arena { o < arena m }
+    requires m_in_range { m ≤ m_most }
+    requires whole_table { length t.old ≡ need m }
+    requires few_spent { spent.old < 2 ^ 20 }
     ensures { Gave m (2 * m + 4) o t.old t.new result spent.old spent.new }
 {
     let leaf = leaf_at(m, o);

@@ -126,7 +126,7 @@ one_size_of s q (allowed_some {b = x} {L = L} i f a) e = ⊎_elim
     (λ (t : serves L s q ≡ true). one_some (λ p. one_before s q f t p) (one_size_of s q a t))
     (or_true (eqb x.size s && eqb (x.start / page_bytes) q) (serves L s q) e)
 
-pub beside_slot : {L : Live} (c q i : ℕ) → i < slots c → OneSize (small c) q L → clear L (slot c q i) ≡ true → BesideAll (slot c q i) L
+pub beside_slot : (c q i : ℕ) {L : Live} → i < slots c → OneSize (small c) q L → clear L (slot c q i) ≡ true → BesideAll (slot c q i) L
 beside_slot c q i h one_none e = beside_none
 beside_slot c q i h (one_some {x = x} {L = L} f r) e = beside_some
     (record { apart = apart_of (slot c q i) x L e; one_size = λ p. sym (f (let z : (slot c q i).start / page_bytes ≡ q = omega (arith, slot_in c i h, small_pos c) in sym p ∙ z)) })

@@ -22,7 +22,7 @@ block_inside {m} (is_large k j k≤ j<) =
     omega (arith, mul-le-mul_right (2 ^ k) j<, suc-mul j (2 ^ k))
 
 pub live_is_block : {m : ℕ} {L : Live} {b : Block} → Allowed m L → Memᴰ b L → IsBlock m b
-live_is_block allowed_none i = absurd (Memᴰ.not_nil i)
+live_is_block allowed_none i = absurd (Memᴰ.not-nil i)
 live_is_block {m} {b = b} (allowed_some {b = x} j p a) i = go (live_is_block a) (Memᴰ.cases_cons i)
   where
     go : {L : Live} → (Memᴰ b L → IsBlock m b) → (b ≡ x) ⊎ Memᴰ b L → IsBlock m b
@@ -38,7 +38,7 @@ pub live_aligned : {m : ℕ} {L : Live} {b : Block} → Allowed m L → Memᴰ b
 live_aligned a i = block_aligned (live_is_block a i)
 
 before_one : {b x : Block} {L : Live} → BeforeAll b L → Memᴰ x L → ends b ≤ x.start
-before_one before_none i = absurd (Memᴰ.not_nil i)
+before_one before_none i = absurd (Memᴰ.not-nil i)
 before_one {b} {x} (before_some {b' = y} {L = L} h r) i = go (before_one r) (Memᴰ.cases_cons i)
   where
     go : (Memᴰ x L → ends b ≤ x.start) → (x ≡ y) ⊎ Memᴰ x L → ends b ≤ x.start
@@ -47,7 +47,7 @@ before_one {b} {x} (before_some {b' = y} {L = L} h r) i = go (before_one r) (Mem
 
 -- two live blocks are the same or have no byte in common
 pub live_apart : {m : ℕ} {L : Live} {b x : Block} → Allowed m L → Memᴰ b L → Memᴰ x L → (b ≡ x) ⊎ Disjoint b x
-live_apart allowed_none i k = absurd (Memᴰ.not_nil i)
+live_apart allowed_none i k = absurd (Memᴰ.not-nil i)
 live_apart {b = b} {x = x} (allowed_some {b = y} {L = L} j p a) i k = go (live_apart a) (Memᴰ.cases_cons i) (Memᴰ.cases_cons k)
   where
     go : (Memᴰ b L → Memᴰ x L → (b ≡ x) ⊎ Disjoint b x) → (b ≡ y) ⊎ Memᴰ b L → (x ≡ y) ⊎ Memᴰ x L → (b ≡ x) ⊎ Disjoint b x

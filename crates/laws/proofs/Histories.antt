@@ -27,4 +27,4 @@ same_future m x y rest e = (ap (λ (L : Live). answers m L rest) e, ap (λ (L : 
 pub always_allowed : {m : ℕ} {L : Live} (rs : List Request) → Allowed m L → Allowed m (after_all m L rs)
 unfolding after_all
 always_allowed [] a = a
-always_allowed (r ∷ rs) a = always_allowed rs (after_allowed r a)
+always_allowed {m = m} {L = L} (r ∷ rs) a = always_allowed {L = after m L r} rs (after_allowed r a)

@@ -1,4 +1,6 @@
 // Any number of requests, one after the other, and two units side by side.
+#![tactic(auto)]
+
 ghost use Rattle.std.specs.Prelude.{◌≡◌, ◌&&◌, false, true, ◌*◌, ◌+◌, ◌<◌, ◌≤◌, get_or, length};
 ghost use Rattle.meaning.specs.Answers.{start as ask_start};
 ghost use Rattle.meaning.specs.Blocks.{Live};

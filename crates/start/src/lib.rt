@@ -1,4 +1,6 @@
 // Start (document 01, section 3), on a table of exactly the cells needed.
+#![tactic(auto)]
+
 ghost use Rattle.std.specs.Prelude.{◌≡◌, [], ◌*◌, ◌+◌, ◌-◌, ◌<◌, ◌≤◌, ◌^◌, length};
 ghost use Rattle.meaning.specs.Blocks.{m_most};
 ghost use Rattle.table.specs.Start.{Filled};
@@ -9,9 +11,9 @@ use terms::page_count;
 
 // The cells from one place up to another become x.
 fn fill(t: &mut [u64], from: usize, to: usize, x: u64, spent: &mut u64)
-    requires fact_1 { from ≤ to }
-    requires fact_2 { to ≤ length t.old }
-    requires fact_3 { spent.old + (to - from) < 2 ^ 32 }
+    requires in_order { from ≤ to }
+    requires to_in_table { to ≤ length t.old }
+    requires few_spent { spent.old + (to - from) < 2 ^ 32 }
     ensures filled { Filled t.old t.new from to x }
     ensures counted { spent.new ≡ spent.old + (to - from) }
 {
@@ -24,9 +26,9 @@ fn fill(t: &mut [u64], from: usize, to: usize, x: u64, spent: &mut u64)
 
 // The table of an arena with no live block, whatever it held.
 pub fn start_table(t: &mut [u64], m: u64, spent: &mut u64)
-    requires fact_1 { m ≤ m_most }
-    requires fact_2 { length t.old ≡ need m }
-    requires fact_3 { spent.old < 2 ^ 20 }
+    requires m_in_range { m ≤ m_most }
+    requires whole_table { length t.old ≡ need m }
+    requires few_spent { spent.old < 2 ^ 20 }
     ensures stands { Stands m [] t.new }
     ensures long { length t.new ≡ length t.old }
     ensures cost { spent.new ≤ spent.old + need m }

@@ -9,7 +9,7 @@ use lib.Dec.{eqb, ltb}
 use lib.Pow.{pow_pos}
 use native.Mathlib.Omega.{arith}
 use Rattle.cells.specs.Cell.{room_of_pair}
-use Rattle.digits.proofs.Digits.{bit_complement, bit_or, bit_pow, bit_zero, bits_none}
+use Rattle.digits.proofs.Digits.{bit_at-bit_or, bit_complement, bit_pow, bit_zero, bits_none}
 use Rattle.digits.specs.Digits.{bit_at}
 use Rattle.laws.proofs.Logic.{and_false, and_left, and_right, and_true, contra, has_or, split}
 use Rattle.laws.proofs.Searches.{lowest_none}
@@ -113,7 +113,7 @@ mask_page c wf_empty q = unfold has has_room in bit_zero c
 mask_page c (wf_cut {c = d} {bits = taken} a p l) q = leaf_mask c d taken l ∙ found_here (has_room c (cut d taken)) q
 mask_page c wf_whole q = unfold has in bit_zero c
 mask_page c (wf_pair {h = h} {l = l} {r = r} u v) q =
-    bit_or c (mask_of l) (mask_of r)
+    bit_at-bit_or c (mask_of l) (mask_of r)
     ∙ (ap₂ ◌||◌ (mask_page c u q) (mask_page c v (q + 2 ^ h)) ∙ sym (has_or (first_page (has_room c) h q l) (first_page (has_room c) h (q + 2 ^ h) r)))
 
 -- the leftmost free page is the leftmost free run of one page

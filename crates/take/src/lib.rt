@@ -1,4 +1,6 @@
 // Take (document 01, section 3), on a table of exactly the cells needed and with good arguments.
+#![tactic(auto)]
+
 ghost use Rattle.std.specs.Prelude.{◌≡◌, true, ◌*◌, ◌+◌, ◌-◌, ◌<◌, ◌≤◌, ◌^◌, get_or, length};
 ghost use Rattle.meaning.specs.Blocks.{Live, arena, m_most, page_bytes, size_count, small};
 ghost use Rattle.meaning.specs.Answers.{fresh_place, large_place, place, served_place, size_given, small_place};
@@ -17,10 +19,10 @@ use walks::{SIZES_FROM, down, map_of, put_leaf, put_node};
 
 // The lowest run of 2^k free pages that starts at a multiple of 2^k.
 pub fn take_run(t: &mut [u64], m: u64, k: u64, spent: &mut u64) -> Reply
-    requires fact_1 { k ≤ m }
-    requires fact_2 { m ≤ m_most }
-    requires fact_3 { length t.old ≡ need m }
-    requires fact_4 { spent.old < 2 ^ 20 }
+    requires k_in_range { k ≤ m }
+    requires m_in_range { m ≤ m_most }
+    requires whole_table { length t.old ≡ need m }
+    requires few_spent { spent.old < 2 ^ 20 }
     ensures { Took m (3 * (m - k) + 3) (page_bytes * 2 ^ k) (λ L. large_place m L k) t.old t.new result spent.old spent.new }
 {
     let root = get(t, 1, &mut *spent);
@@ -38,11 +40,11 @@ pub fn take_run(t: &mut [u64], m: u64, k: u64, spent: &mut u64) -> Reply
 
 // The lowest slot that is not live in a page that serves size number c, where the root says that there is one.
 fn take_served(t: &mut [u64], m: u64, c: u64, spent: &mut u64) -> Reply
-    requires fact_1 { c < size_count }
-    requires fact_2 { m ≤ m_most }
-    requires fact_3 { length t.old ≡ need m }
-    requires fact_4 { has_size c (get_or t.old 1 0) ≡ true }
-    requires fact_5 { spent.old < 2 ^ 21 }
+    requires c_in_range { c < size_count }
+    requires m_in_range { m ≤ m_most }
+    requires whole_table { length t.old ≡ need m }
+    requires page_there { has_size c (get_or t.old 1 0) ≡ true }
+    requires few_spent { spent.old < 2 ^ 21 }
     ensures { Took m (3 * m + 4) (small c) (λ L. served_place m L c) t.old t.new result spent.old spent.new }
 {
     let w = down(t, m, SIZES_FROM + c, &mut *spent);
@@ -65,11 +67,11 @@ fn take_served(t: &mut [u64], m: u64, c: u64, spent: &mut u64) -> Reply
 
 // The first slot of the lowest free page, where the root says that there is one; the page serves size number c from now on.
 fn take_fresh(t: &mut [u64], m: u64, c: u64, spent: &mut u64) -> Reply
-    requires fact_1 { c < size_count }
-    requires fact_2 { m ≤ m_most }
-    requires fact_3 { length t.old ≡ need m }
-    requires fact_4 { has_room_for 0 (get_or t.old 1 0) ≡ true }
-    requires fact_5 { spent.old < 2 ^ 21 }
+    requires c_in_range { c < size_count }
+    requires m_in_range { m ≤ m_most }
+    requires whole_table { length t.old ≡ need m }
+    requires page_there { has_room_for 0 (get_or t.old 1 0) ≡ true }
+    requires few_spent { spent.old < 2 ^ 21 }
     ensures { Took m (3 * m + 3) (small c) (λ L. fresh_place m L c) t.old t.new result spent.old spent.new }
 {
     let w = down(t, m, 0, &mut *spent);
@@ -84,10 +86,10 @@ fn take_fresh(t: &mut [u64], m: u64, c: u64, spent: &mut u64) -> Reply
 
 // A block of size number c.
 pub fn take_slot(t: &mut [u64], m: u64, c: u64, spent: &mut u64) -> Reply
-    requires fact_1 { c < size_count }
-    requires fact_2 { m ≤ m_most }
-    requires fact_3 { length t.old ≡ need m }
-    requires fact_4 { spent.old < 2 ^ 20 }
+    requires c_in_range { c < size_count }
+    requires m_in_range { m ≤ m_most }
+    requires whole_table { length t.old ≡ need m }
+    requires few_spent { spent.old < 2 ^ 20 }
     ensures { Took m (3 * m + 5) (small c) (λ L. small_place m L c) t.old t.new result spent.old spent.new }
 {
     let root = get(t, 1, &mut *spent);
@@ -102,10 +104,10 @@ pub fn take_slot(t: &mut [u64], m: u64, c: u64, spent: &mut u64) -> Reply
 
 // A block for n bytes.
 pub fn take_block(t: &mut [u64], m: u64, n: u64, spent: &mut u64) -> Reply
-    requires fact_1 { n ≤ arena m }
-    requires fact_2 { m ≤ m_most }
-    requires fact_3 { length t.old ≡ need m }
-    requires fact_4 { spent.old < 2 ^ 20 }
+    requires n_in_arena { n ≤ arena m }
+    requires m_in_range { m ≤ m_most }
+    requires whole_table { length t.old ≡ need m }
+    requires few_spent { spent.old < 2 ^ 20 }
     ensures { Took m (3 * m + 5) (size_given m n) (λ L. place m L n) t.old t.new result spent.old spent.new }
 {
     if n <= SMALL_MOST {

@@ -1,4 +1,6 @@
 // Document 01's words as code: its limits and sizes (sections 1 and 2), offsets, and replies (sections 3 and 4).
+#![tactic(auto)]
+
 ghost use Rattle.std.specs.Prelude.{◌≡◌, ◌+◌, ◌*◌, ◌-◌, ◌/◌, ◌<◌, ◌≤◌, ◌^◌};
 ghost use Rattle.std.proofs.Math.Option.{some};
 ghost use Rattle.meaning.specs.Blocks.{page_bytes, m_most, small_most, size_count, arena, small, slots, slot, large};
@@ -102,8 +104,8 @@ pub fn size_for(n: u64) -> u64
 
 // The least k with 2^k pages for n bytes (section 3, take).
 pub fn k_for(m: u64, n: u64) -> u64
-    requires fact_1 { m ≤ m_most }
-    requires fact_2 { n ≤ arena m }
+    requires m_in_range { m ≤ m_most }
+    requires n_in_arena { n ≤ arena m }
     ensures found { k_for m n ≡ some result }
     ensures small { result ≤ m }
 {
@@ -128,10 +130,10 @@ pub fn run_bytes(k: u64) -> u64
 
 // The offset of the node v of height k: of its first page.
 pub fn run_offset(m: u64, k: u64, v: usize) -> u64
-    requires fact_1 { m ≤ m_most }
-    requires fact_2 { k ≤ m }
-    requires fact_3 { 2 ^ (m - k) ≤ v }
-    requires fact_4 { v < 2 * 2 ^ (m - k) }
+    requires m_in_range { m ≤ m_most }
+    requires k_in_range { k ≤ m }
+    requires v_from { 2 ^ (m - k) ≤ v }
+    requires v_below { v < 2 * 2 ^ (m - k) }
     ensures starts { result ≡ (large k (v - 2 ^ (m - k))).start }
     ensures inside { result + page_bytes * 2 ^ k ≤ arena m }
 {
@@ -141,11 +143,11 @@ pub fn run_offset(m: u64, k: u64, v: usize) -> u64
 
 // The offset of slot i of size number c in the page of leaf w.
 pub fn slot_offset(m: u64, c: u64, w: usize, i: u64) -> u64
-    requires fact_1 { m ≤ m_most }
-    requires fact_2 { c < size_count }
-    requires fact_3 { i < slots c }
-    requires fact_4 { 2 ^ m ≤ w }
-    requires fact_5 { w < 2 * 2 ^ m }
+    requires m_in_range { m ≤ m_most }
+    requires c_in_range { c < size_count }
+    requires i_in_page { i < slots c }
+    requires w_from { 2 ^ m ≤ w }
+    requires w_below { w < 2 * 2 ^ m }
     ensures starts { result ≡ (slot c (w - 2 ^ m) i).start }
     ensures inside { result + small c ≤ arena m }
 {
@@ -155,8 +157,8 @@ pub fn slot_offset(m: u64, c: u64, w: usize, i: u64) -> u64
 
 // The leaf of the page that holds the byte at an offset.
 pub fn leaf_at(m: u64, o: u64) -> usize
-    requires fact_1 { m ≤ m_most }
-    requires fact_2 { o < arena m }
+    requires m_in_range { m ≤ m_most }
+    requires o_in_arena { o < arena m }
     ensures exact { result ≡ 2 ^ m + o / page_bytes }
     ensures below { result < 2 * 2 ^ m }
 {

@@ -1,4 +1,6 @@
 // The three walks over the table (docs/TABLE.md): down, locate, up. Loops only; every index is bounded by numbers that do not come out of the table.
+#![tactic(auto)]
+
 ghost use Rattle.std.specs.Prelude.{◌≡◌, ◌%◌, ◌+◌, ◌*◌, ◌-◌, ◌<◌, ◌≤◌, ◌^◌, length, get_or};
 ghost use Rattle.meaning.specs.Blocks.{m_most};
 ghost use Rattle.cells.specs.Cell.{room_span, mask_digits};
@@ -25,10 +27,10 @@ fn wanted(cell: u64, what: u64) -> bool
 
 // From the root `levels` down, by the left half where its cell has what is looked for, else by the right: the node that is reached.
 pub fn down(t: &[u64], levels: u64, what: u64, spent: &mut u64) -> usize
-    requires fact_1 { what < room_span + mask_digits }
-    requires fact_2 { levels ≤ m_most }
-    requires fact_3 { 2 * 2 ^ levels ≤ length t.now }
-    requires fact_4 { spent.old < 2 ^ 31 }
+    requires what_in_range { what < room_span + mask_digits }
+    requires levels_in_range { levels ≤ m_most }
+    requires nodes_in_table { 2 * 2 ^ levels ≤ length t.now }
+    requires few_spent { spent.old < 2 ^ 31 }
     ensures { Descended levels what t.now result spent.old spent.new }
 {
     let mut v: usize = 1;
@@ -54,9 +56,9 @@ pub struct Tagged {
 
 // From a leaf upward to the first node with a tag.
 pub fn locate(t: &[u64], m: u64, leaf: usize, spent: &mut u64) -> Tagged
-    requires fact_1 { m ≤ m_most }
-    requires fact_2 { leaf < length t.now }
-    requires fact_3 { spent.old < 2 ^ 31 }
+    requires m_in_range { m ≤ m_most }
+    requires leaf_in_table { leaf < length t.now }
+    requires few_spent { spent.old < 2 ^ 31 }
     ensures { Located t.now m leaf result spent.old spent.new }
 {
     let mut v = leaf;
@@ -94,12 +96,12 @@ fn sibling(v: usize) -> usize
 
 // From the node `at` of a height, whose cell has the value x, to the root: each node above it becomes the join of its halves.
 pub fn up(t: &mut [u64], m: u64, at: usize, height: u64, value: u64, spent: &mut u64)
-    requires node_1 { height ≤ m }
-    requires node_2 { m ≤ m_most }
-    requires node_3 { at < 2 * 2 ^ m }
-    requires table_1 { 2 * 2 ^ m ≤ length t.old }
-    requires table_2 { value ≡ get_or t.old at 0 }
-    requires table_3 { spent.old < 2 ^ 31 }
+    requires height_in_range { height ≤ m }
+    requires m_in_range { m ≤ m_most }
+    requires at_below { at < 2 * 2 ^ m }
+    requires nodes_in_table { 2 * 2 ^ m ≤ length t.old }
+    requires value_stored { value ≡ get_or t.old at 0 }
+    requires few_spent { spent.old < 2 ^ 31 }
     ensures { Climbed m at height t.old t.new spent.old spent.new }
 {
     let mut v = at;
@@ -116,11 +118,11 @@ pub fn up(t: &mut [u64], m: u64, at: usize, height: u64, value: u64, spent: &mut
 
 // A cell stored at the node v of a height, and the nodes above it mended.
 pub fn put_node(t: &mut [u64], m: u64, v: usize, height: u64, cell: u64, spent: &mut u64)
-    requires node_1 { height ≤ m }
-    requires node_2 { m ≤ m_most }
-    requires node_3 { v < 2 * 2 ^ m }
-    requires table_1 { 2 * 2 ^ m ≤ length t.old }
-    requires table_2 { spent.old < 2 ^ 30 }
+    requires height_in_range { height ≤ m }
+    requires m_in_range { m ≤ m_most }
+    requires v_below { v < 2 * 2 ^ m }
+    requires nodes_in_table { 2 * 2 ^ m ≤ length t.old }
+    requires few_spent { spent.old < 2 ^ 30 }
     ensures { NodePut m v height cell t.old t.new spent.old spent.new }
 {
     put(t, v, cell, &mut *spent);
@@ -129,8 +131,8 @@ pub fn put_node(t: &mut [u64], m: u64, v: usize, height: u64, cell: u64, spent: 
 
 // The place of a leaf's bitmap.
 pub fn map_of(m: u64, w: usize) -> usize
-    requires fact_1 { m ≤ m_most }
-    requires fact_2 { w < 2 * 2 ^ m }
+    requires m_in_range { m ≤ m_most }
+    requires w_below { w < 2 * 2 ^ m }
     ensures { result ≡ w + 2 ^ m }
 {
     w + (1 << m)
@@ -138,11 +140,11 @@ pub fn map_of(m: u64, w: usize) -> usize
 
 // A bitmap and a cell stored at the leaf w, and the nodes above it mended.
 pub fn put_leaf(t: &mut [u64], m: u64, w: usize, cell: u64, bits: u64, spent: &mut u64)
-    requires node_1 { m ≤ m_most }
-    requires node_2 { 2 ^ m ≤ w }
-    requires node_3 { w < 2 * 2 ^ m }
-    requires table_1 { need m ≤ length t.old }
-    requires table_2 { spent.old < 2 ^ 30 }
+    requires m_in_range { m ≤ m_most }
+    requires w_from { 2 ^ m ≤ w }
+    requires w_below { w < 2 * 2 ^ m }
+    requires table_fits { need m ≤ length t.old }
+    requires few_spent { spent.old < 2 ^ 30 }
     ensures { LeafPut m w cell bits t.old t.new spent.old spent.new }
 {
     put(t, map_of(m, w), bits, &mut *spent);

@@ -1,4 +1,6 @@
 // Which (document 01, section 3), on a table of exactly the cells needed and at an offset of the arena.
+#![tactic(auto)]
+
 ghost use Rattle.std.specs.Prelude.{◌≡◌, ◌*◌, ◌+◌, ◌-◌, ◌/◌, ◌<◌, ◌≤◌, ◌^◌, max, suc, get_or, length};
 ghost use Rattle.meaning.specs.Blocks.{arena, m_most, page_bytes, size_count};
 ghost use Rattle.cells.specs.Cell.{tag_in};
@@ -15,14 +17,14 @@ use walks::{locate, map_of, node_above};
 
 // The slot that holds the byte o, if there is one and it is live; its page serves size number c.
 fn tell_slot(t: &[u64], m: u64, o: u64, leaf: usize, c: u64, spent: &mut u64) -> Reply
-    requires place_1 { m ≤ m_most }
-    requires place_2 { o < arena m }
-    requires place_3 { leaf ≡ 2 ^ m + o / page_bytes }
-    requires found_1 { c < size_count }
-    requires found_2 { 0 ≡ located (suc m) t.now leaf 0 }
-    requires found_3 { tag_in (get_or t.now leaf 0) ≡ c + 1 }
-    requires table_1 { length t.now ≡ need m }
-    requires table_2 { spent.old < 2 ^ 21 }
+    requires m_in_range { m ≤ m_most }
+    requires o_in_arena { o < arena m }
+    requires leaf_of_o { leaf ≡ 2 ^ m + o / page_bytes }
+    requires c_in_range { c < size_count }
+    requires located_at { 0 ≡ located (suc m) t.now leaf 0 }
+    requires page_tag { tag_in (get_or t.now leaf 0) ≡ c + 1 }
+    requires whole_table { length t.now ≡ need m }
+    requires few_spent { spent.old < 2 ^ 21 }
     ensures { Told m 1 o t.now result spent.old spent.new }
 {
     let size = small_size(c);
@@ -39,10 +41,10 @@ fn tell_slot(t: &[u64], m: u64, o: u64, leaf: usize, c: u64, spent: &mut u64) ->
 
 // The start and the size of the live block that holds the byte o.
 pub fn tell_block(t: &[u64], m: u64, o: u64, spent: &mut u64) -> Reply
-    requires fact_1 { o < arena m }
-    requires fact_2 { m ≤ m_most }
-    requires fact_3 { length t.now ≡ need m }
-    requires fact_4 { spent.old < 2 ^ 20 }
+    requires o_in_arena { o < arena m }
+    requires m_in_range { m ≤ m_most }
+    requires whole_table { length t.now ≡ need m }
+    requires few_spent { spent.old < 2 ^ 20 }
     ensures { Told m (1 + max 1 m) o t.now result spent.old spent.new }
 {
     let leaf = leaf_at(m, o);
