@@ -7,7 +7,6 @@ use Prim.Native.Nat.{◌<◌, ◌≤◌, ℕ}
 use borrow.Author.Tests.{eqb-true, leb-true, ltb-true}
 use lib.Dec.{eqb, leb, ltb}
 use native.Mathlib.Omega.{arith}
-use Rattle.meaning.proofs.Played.{at}
 use Rattle.meaning.specs.Answers.{Request, answer, bad_argument, check_up, figures, give_back, holds, offset, or_refuse, place, refused, refused_at_once, reply, start, starts_at, take, which}
 use Rattle.meaning.specs.Blocks.{Allowed, Block, Live, allowed_none, allowed_some, arena, ends, m_most}
 use Rattle.meaning.specs.Search.{find}

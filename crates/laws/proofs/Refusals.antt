@@ -8,7 +8,6 @@ use borrow.Author.Tests.{le-leb, le-ltb, leb-false, leb-true, lt-leb, ne_eqb}
 use lib.Dec.{eqb, leb, ltb}
 use native.Mathlib.Nat.{eq-or-lt_of_le, mul-le-mul_right}
 use native.Mathlib.Omega.{arith}
-use Rattle.meaning.proofs.Played.{at}
 use Rattle.meaning.specs.Answers.{Answer, answer, clear, free, fresh_place, has_slot, k_for, large_place, lowest_slot, offset, or_refuse, place, refused, served_place, serves, size_for, small_place, take}
 use Rattle.meaning.specs.Blocks.{Block, Live, arena, large, slot, slots, small, small_most}
 use Rattle.meaning.specs.Candidates.{Candidate, Served, in_free_page, in_run, in_served}

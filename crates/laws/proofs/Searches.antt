@@ -6,7 +6,6 @@ use mathlib.Core.Option.{Option, none, some}
 use Prim.Native.Nat.{◌+◌, ◌<◌, ◌≤◌, suc, zero, ℕ}
 use native.Mathlib.Nat.{add-suc, add-zero, eq-or-lt_of_le, suc-add, zero-add}
 use native.Mathlib.Omega.{arith}
-use Rattle.meaning.proofs.Played.{at}
 use Rattle.meaning.specs.Search.{lowest, or_else}
 use Rattle.laws.proofs.Logic.{contra, le_or_lt, no_some, split}
 

@@ -15,7 +15,6 @@ use Rattle.laws.proofs.Counting.{count_of_four}
 use Rattle.laws.proofs.Logic.{and_false, le_or_lt}
 use Rattle.laws.proofs.Searches.{lowest_is, lowest_isnt}
 use Rattle.laws.proofs.Sizes.{slot_in, small_inj, small_most_lem, small_pos}
-use Rattle.meaning.proofs.Played.{at}
 use Rattle.meaning.specs.Answers.{clear, free, holds, serves}
 use Rattle.meaning.specs.Blocks.{Allowed, Block, Live, arena, ends, page_bytes, pages, size_count, slot, slots, small}
 use Rattle.meaning.specs.Bytes.{in_free, in_idle, in_left_over, in_live, of_four, served_size, serves_one}

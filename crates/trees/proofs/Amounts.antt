@@ -11,7 +11,6 @@ use Rattle.laws.proofs.Apart.{block_inside}
 use Rattle.laws.proofs.Counting.{count_all, count_between, count_cong, count_even, count_none, count_not, count_or, count_parts, count_runs, count_shift, total_cong}
 use Rattle.laws.proofs.Logic.{and_right}
 use Rattle.laws.proofs.Sizes.{small_pos}
-use Rattle.meaning.proofs.Played.{at}
 use Rattle.meaning.specs.Answers.{clear, free, held_bytes, holds, live_bytes}
 use Rattle.meaning.specs.Blocks.{Allowed, BeforeAll, Block, Live, allowed_none, allowed_some, arena, before_none, before_some, ends, page_bytes, slot, slots, small}
 use Rattle.meaning.specs.Bytes.{idle_of_page, in_free, in_idle, in_left_over, in_live, left_over_of_page, served_size, serves_one, total}

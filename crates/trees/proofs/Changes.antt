@@ -12,7 +12,6 @@ use native.Mathlib.Nat.{add-mul, mul-le-mul_right, pow-suc, suc-mul}
 use native.Mathlib.Omega.{arith}
 use Rattle.laws.proofs.Lists.{remove_append}
 use Rattle.laws.proofs.Logic.{and_left, and_right, contra, no_some, split}
-use Rattle.meaning.proofs.Played.{at}
 use Rattle.meaning.specs.Answers.{insert, remove, starts_at}
 use Rattle.meaning.specs.Blocks.{Block, Live, large, page_bytes}
 use Rattle.trees.proofs.Runs.{span}
@@ -21,18 +20,18 @@ use Rattle.trees.specs.Change.{Change, here, left, right}
 use Rattle.trees.specs.Leftmost.{first_run}
 use Rattle.trees.specs.Tree.{Tree, WF, blocks, is_empty, pair, vacant, wf_cut, wf_empty, wf_pair, wf_whole, whole}
 
-pub change_from : {j d i : ℕ} {S N T T' : Tree} → Change j S N d i T T' → i ≤ j
+pub change_from : {j : ℕ} {S N : Tree} {d i : ℕ} {T T' : Tree} → Change j S N d i T T' → i ≤ j
 change_from here = omega arith
 change_from (left r c) = change_from c
 change_from (right l c) = let z = change_from c in omega arith
 
-pub change_to : {j d i : ℕ} {S N T T' : Tree} → Change j S N d i T T' → j < i + 2 ^ d
+pub change_to : {j : ℕ} {S N : Tree} {d i : ℕ} {T T' : Tree} → Change j S N d i T T' → j < i + 2 ^ d
 change_to here = omega arith
 change_to (left {d = d} r c) = omega (arith, change_to c, pow-suc 2 d)
 change_to (right {d = d} l c) = omega (arith, change_to c, pow-suc 2 d)
 
-pub change_wf : {h k j d i : ℕ} {S N T T' : Tree} → Change j S N d i T T' → WF h T → h ≡ k + d → WF k N → WF h T'
-change_wf {h} {k} {N = N} here w e n = subst (λ x. WF x N) (omega arith) n
+pub change_wf : {k j : ℕ} {S N : Tree} {d i h : ℕ} {T T' : Tree} → Change j S N d i T T' → WF h T → h ≡ k + d → WF k N → WF h T'
+change_wf {k = k} {N = N} {h = h} here w e n = subst (λ x. WF x N) (omega arith) n
 change_wf (left r c) (wf_pair u v) e n = wf_pair (change_wf c u (omega arith) n) v
 change_wf (right l c) (wf_pair u v) e n = wf_pair u (change_wf c v (omega arith) n)
 
@@ -63,14 +62,14 @@ pub right_start : {h : ℕ} (k d i : ℕ) → h ≡ k + d → (i + 2 ^ d) * 2 ^ 
 right_start k d i e = let z = span k d e in omega (arith, add-mul i (2 ^ d) (2 ^ k))
 
 -- where number j of its size lies
-pub part_range : {j d i : ℕ} {S N T T' : Tree} (h k : ℕ) → Change j S N d i T T' → h ≡ k + d → (i * 2 ^ k ≤ j * 2 ^ k) × (j * 2 ^ k + 2 ^ k ≤ i * 2 ^ k + 2 ^ h)
+pub part_range : {j : ℕ} {S N : Tree} {d i : ℕ} {T T' : Tree} (h k : ℕ) → Change j S N d i T T' → h ≡ k + d → (i * 2 ^ k ≤ j * 2 ^ k) × (j * 2 ^ k + 2 ^ k ≤ i * 2 ^ k + 2 ^ h)
 part_range {j} {d} {i} h k c e = (mul-le-mul_right (2 ^ k) (change_from c), omega (arith, mul-le-mul_right (2 ^ k) (change_to c), suc-mul j (2 ^ k), add-mul i (2 ^ d) (2 ^ k), span k d e))
 
-pub change_insert : {h j d i : ℕ} {S N T T' : Tree} (k : ℕ) → Change j S N d i T T' → WF h T → h ≡ k + d
+pub change_insert : {j : ℕ} {S N : Tree} {d i h : ℕ} {T T' : Tree} (k : ℕ) → Change j S N d i T T' → WF h T → h ≡ k + d
     → (b : Block) → page_bytes * (j * 2 ^ k) ≤ b.start → b.start < page_bytes * (j * 2 ^ k + 2 ^ k)
     → blocks k (j * 2 ^ k) N ≡ insert b (blocks k (j * 2 ^ k) S) → blocks h (i * 2 ^ k) T' ≡ insert b (blocks h (i * 2 ^ k) T)
 unfolding blocks
-change_insert {h} {j} {S = S} {N = N} k here w e b lo hi f = subst (λ x. blocks x (j * 2 ^ k) N ≡ insert b (blocks x (j * 2 ^ k) S)) (omega arith) f
+change_insert {j = j} {S = S} {N = N} {h = h} k here w e b lo hi f = subst (λ x. blocks x (j * 2 ^ k) N ≡ insert b (blocks x (j * 2 ^ k) S)) (omega arith) f
 change_insert {i = i} k (left {d = d} {l = l} r c) (wf_pair {h = h} u v) e b lo hi f =
     let e' : h ≡ k + d = omega arith in
     let q : ℕ = i * 2 ^ k in
@@ -82,11 +81,11 @@ change_insert {i = i} k (right {d = d} l {r = r} {r' = r'} c) (wf_pair {h = h} u
     ap (λ (x : Live). blocks h q l ++ x) (rw (right_start k d i e') at (change_insert k c v e' b lo hi f))
     ∙ sym (insert_right (blocks h (q + 2 ^ h) r) (blocks_within u q) b (omega (arith, part_range h k c e', right_start k d i e')))
 
-pub change_remove : {h j d i : ℕ} {S N T T' : Tree} (k : ℕ) → Change j S N d i T T' → WF h T → h ≡ k + d
+pub change_remove : {j : ℕ} {S N : Tree} {d i h : ℕ} {T T' : Tree} (k : ℕ) → Change j S N d i T T' → WF h T → h ≡ k + d
     → (o : ℕ) → page_bytes * (j * 2 ^ k) ≤ o → o < page_bytes * (j * 2 ^ k + 2 ^ k)
     → blocks k (j * 2 ^ k) N ≡ remove o (blocks k (j * 2 ^ k) S) → blocks h (i * 2 ^ k) T' ≡ remove o (blocks h (i * 2 ^ k) T)
 unfolding blocks
-change_remove {h} {j} {S = S} {N = N} k here w e o lo hi f = subst (λ x. blocks x (j * 2 ^ k) N ≡ remove o (blocks x (j * 2 ^ k) S)) (omega arith) f
+change_remove {j = j} {S = S} {N = N} {h = h} k here w e o lo hi f = subst (λ x. blocks x (j * 2 ^ k) N ≡ remove o (blocks x (j * 2 ^ k) S)) (omega arith) f
 change_remove {i = i} k (left {d = d} {l = l} r c) (wf_pair {h = h} u v) e o lo hi f =
     let e' : h ≡ k + d = omega arith in
     let q : ℕ = i * 2 ^ k in

@@ -14,7 +14,6 @@ use Rattle.digits.specs.Digits.{bit_at}
 use Rattle.laws.proofs.Allowing.{block_size, one_before}
 use Rattle.laws.proofs.Logic.{contra, le_or_lt}
 use Rattle.laws.proofs.Sizes.{slot_in, small_inj, small_pos}
-use Rattle.meaning.proofs.Played.{at}
 use Rattle.meaning.specs.Answers.{clear, insert, serves}
 use Rattle.meaning.specs.Blocks.{Allowed, BeforeAll, Block, IsBlock, Live, allowed_none, allowed_some, before_none, before_some, ends, is_large, is_slot, large, page_bytes, pages, size_count, slot, slots, small}
 use Rattle.meaning.specs.Search.{every}
@@ -29,9 +28,9 @@ use Rattle.trees.specs.Tree.{Tree, WF, blocks, cut, empty, is_empty, slot_blocks
 
 -- ---- the blocks of a tree are allowed
 
-before_append : {hi : ℕ} {b : Block} {x y : Live} (p : ℕ) → BeforeAll b x → b.start < ends b → ends b ≤ page_bytes * p → Within (page_bytes * p) hi y → BeforeAll b (x ++ y)
+before_append : (p : ℕ) {hi : ℕ} {b : Block} {x y : Live} → BeforeAll b x → b.start < ends b → ends b ≤ page_bytes * p → Within (page_bytes * p) hi y → BeforeAll b (x ++ y)
 before_append p before_none n e within_none = before_none
-before_append {b = b} p before_none n e (within_some {b = y} s m f w) = before_some {b' = y} (record { apart = omega arith; one_size = λ q. absurd (omega arith) }) (before_append p before_none n e w)
+before_append p {b = b} before_none n e (within_some {b = y} s m f w) = before_some {b' = y} (record { apart = omega arith; one_size = λ q. absurd (omega arith) }) (before_append p before_none n e w)
 before_append p (before_some h r) n e w = before_some h (before_append p r n e w)
 
 pub allowed_append : {m lo hi : ℕ} {x y : Live} (p : ℕ) → Allowed m x → Allowed m y → Within lo (page_bytes * p) x → Within (page_bytes * p) hi y → Allowed m (x ++ y)
@@ -106,10 +105,10 @@ at_free (wf_pair {h = h} {l = l} {r = r} u v) k (suc d) i j e f t b lo n hi c =
     (le_or_lt (i + 2 ^ d) j)
 
 -- what a page serves is what its part serves
-pub serves_at : {h j d i : ℕ} {S N T T' : Tree} (k s q : ℕ) → Change j S N d i T T' → WF h T → h ≡ k + d
+pub serves_at : {j : ℕ} {S N : Tree} {d i h : ℕ} {T T' : Tree} (k s q : ℕ) → Change j S N d i T T' → WF h T → h ≡ k + d
     → j * 2 ^ k ≤ q → q < j * 2 ^ k + 2 ^ k → serves (blocks h (i * 2 ^ k) T) s q ≡ serves (blocks k (j * 2 ^ k) S) s q
 unfolding blocks
-serves_at {h} {j} {S = S} k s q here w e lo hi = ap (λ x. serves (blocks x (j * 2 ^ k) S) s q) (omega arith)
+serves_at {j = j} {S = S} {h = h} k s q here w e lo hi = ap (λ x. serves (blocks x (j * 2 ^ k) S) s q) (omega arith)
 serves_at {i = i} k s q (left {d = d} {l = l} r c) (wf_pair {h = h} u v) e lo hi =
     let e' : h ≡ k + d = omega arith in
     let p : ℕ = i * 2 ^ k in

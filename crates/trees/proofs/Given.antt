@@ -75,10 +75,10 @@ find_outside p o near (within_some {b = b} {L = L} s n e w) h = go (split (p b))
     go (inl t) ih = let z = near b n t in absurd (⊎_elim (λ (a : o < _). omega arith) (λ (a : _ ≤ o). omega arith) h)
     go (inr t) ih = rw t ih
 
-pub find_at : {h j d i : ℕ} {S N T T' : Tree} (p : Block → Bool) (o : ℕ) → Near o p → (k : ℕ) → Change j S N d i T T' → WF h T → h ≡ k + d
+pub find_at : {j : ℕ} {S N : Tree} {d i h : ℕ} {T T' : Tree} (p : Block → Bool) (o : ℕ) → Near o p → (k : ℕ) → Change j S N d i T T' → WF h T → h ≡ k + d
     → page_bytes * (j * 2 ^ k) ≤ o → o < page_bytes * (j * 2 ^ k + 2 ^ k) → find p (blocks h (i * 2 ^ k) T) ≡ find p (blocks k (j * 2 ^ k) S)
 unfolding blocks or_else
-find_at {h} {j} {S = S} p o near k here w e lo hi = ap (λ x. find p (blocks x (j * 2 ^ k) S)) (omega arith)
+find_at {j = j} {S = S} {h = h} p o near k here w e lo hi = ap (λ x. find p (blocks x (j * 2 ^ k) S)) (omega arith)
 find_at {i = i} p o near k (left {d = d} {l = l} r c) (wf_pair {h = h} u v) e lo hi =
     let e' : h ≡ k + d = omega arith in
     let q : ℕ = i * 2 ^ k in

@@ -13,14 +13,12 @@ use Rattle.laws.proofs.Lists.{any_append}
 use Rattle.laws.proofs.Logic.{or_false, split}
 use Rattle.laws.proofs.Searches.{lowest_cong, lowest_isnt, lowest_parts}
 use Rattle.laws.proofs.Sizes.{slot_in, small_inj, small_most_lem}
-use Rattle.meaning.proofs.Played.{at}
 use Rattle.meaning.specs.Answers.{clear, free, has_slot, lowest_slot, serves}
 use Rattle.meaning.specs.Blocks.{Live, page_bytes, pages, size_count, slot, slots, small}
 use Rattle.meaning.specs.Search.{any, every, has, least, lowest, or_else}
 use Rattle.trees.proofs.Runs.{clear_left, clear_right}
 use Rattle.trees.proofs.Slots.{serves_outside, slots_clear, slots_serve, slots_serve_not}
 use Rattle.trees.proofs.Within.{Within, blocks_within, clear_all, clear_head}
-use Rattle.trees.specs.Change.{left, right}
 use Rattle.trees.specs.Leftmost.{first_page, has_room, lowest_zero}
 use Rattle.trees.specs.Tree.{Tree, WF, blocks, cut, empty, is_empty, slot_blocks, wf_cut, wf_empty, wf_pair, wf_whole}
 

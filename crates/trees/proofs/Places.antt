@@ -28,17 +28,17 @@ use Rattle.trees.specs.Leftmost.{first_page, has_room, lowest_zero}
 use Rattle.trees.specs.Tree.{Tree, WF, blocks, cut, empty, is_empty, pair, slot_blocks, wf_cut, wf_empty, wf_pair, wf_whole, whole}
 
 -- the part that is replaced is a tree of its height
-pub old_wf : {h k j d i : ℕ} {S N T T' : Tree} → Change j S N d i T T' → WF h T → h ≡ k + d → WF k S
+pub old_wf : {k j : ℕ} {S N : Tree} {d i h : ℕ} {T T' : Tree} → Change j S N d i T T' → WF h T → h ≡ k + d → WF k S
 old_wf {S = S} here w e = subst (λ x. WF x S) (omega arith) w
 old_wf (left r c) (wf_pair u v) e = old_wf c u (omega arith)
 old_wf (right l c) (wf_pair u v) e = old_wf c v (omega arith)
 
 -- what is free there is what is free in the part
-pub clear_at : {h j d i : ℕ} {S N T T' : Tree} (k : ℕ) → Change j S N d i T T' → WF h T → h ≡ k + d
+pub clear_at : {j : ℕ} {S N : Tree} {d i h : ℕ} {T T' : Tree} (k : ℕ) → Change j S N d i T T' → WF h T → h ≡ k + d
     → (b : Block) → page_bytes * (j * 2 ^ k) ≤ b.start → ends b ≤ page_bytes * (j * 2 ^ k + 2 ^ k)
     → clear (blocks h (i * 2 ^ k) T) b ≡ clear (blocks k (j * 2 ^ k) S) b
 unfolding blocks
-clear_at {h} {j} {S = S} k here w e b lo hi = ap (λ x. clear (blocks x (j * 2 ^ k) S) b) (omega arith)
+clear_at {j = j} {S = S} {h = h} k here w e b lo hi = ap (λ x. clear (blocks x (j * 2 ^ k) S) b) (omega arith)
 clear_at {i = i} k (left {d = d} {l = l} r c) (wf_pair {h = h} u v) e b lo hi =
     let e' : h ≡ k + d = omega arith in
     let q : ℕ = i * 2 ^ k in

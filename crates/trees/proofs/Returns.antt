@@ -14,7 +14,6 @@ use Rattle.digits.proofs.Digits.{bit_le, less_same}
 use Rattle.digits.specs.Digits.{bit_at}
 use Rattle.laws.proofs.Logic.{le_or_lt, no_some, split}
 use Rattle.laws.proofs.Sizes.{slot_in, small_inj, small_most_lem, small_pos}
-use Rattle.meaning.proofs.Played.{at}
 use Rattle.meaning.specs.Answers.{remove, starts_at}
 use Rattle.meaning.specs.Blocks.{Block, large, page_bytes, pages, size_count, slot, slots, small}
 use Rattle.meaning.specs.Search.{find}

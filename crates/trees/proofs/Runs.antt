@@ -13,7 +13,6 @@ use Rattle.meaning.specs.Answers.{clear}
 use Rattle.meaning.specs.Blocks.{Block, Live, ends, large, pages}
 use Rattle.meaning.specs.Search.{least, lowest, or_else}
 use Rattle.trees.proofs.Within.{Within, blocks_within, clear_all, clear_head, clear_outside}
-use Rattle.trees.specs.Change.{left, right}
 use Rattle.trees.specs.Leftmost.{first_run}
 use Rattle.trees.specs.Tree.{Tree, WF, blocks, wf_cut, wf_empty, wf_pair, wf_whole}
 

@@ -11,7 +11,6 @@ use native.Mathlib.Omega.{arith}
 use Rattle.digits.specs.Digits.{bit_at}
 use Rattle.laws.proofs.Logic.{and_false, split}
 use Rattle.laws.proofs.Sizes.{slot_in, small_pos}
-use Rattle.meaning.proofs.Played.{at}
 use Rattle.meaning.specs.Answers.{clear, insert, serves}
 use Rattle.meaning.specs.Blocks.{Block, Live, ends, page_bytes, slot, slots, small}
 use Rattle.meaning.specs.Search.{any, every}

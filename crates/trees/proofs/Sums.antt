@@ -17,7 +17,6 @@ use Rattle.meaning.specs.Search.{count, every, has, least}
 use Rattle.trees.proofs.Pages.{free_local}
 use Rattle.trees.proofs.Runs.{largest_first}
 use Rattle.trees.proofs.Within.{blocks_within, clear_all}
-use Rattle.trees.specs.Change.{left, right}
 use Rattle.trees.specs.Leftmost.{first_run}
 use Rattle.trees.specs.Sums.{best, room_bytes, used}
 use Rattle.trees.specs.Tree.{Tree, WF, blocks, is_empty, slot_blocks, wf_cut, wf_empty, wf_pair, wf_whole}

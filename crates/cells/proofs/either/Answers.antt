@@ -1,0 +1,8 @@
+-- `cells::either` meets its contract. Assumes nothing.
+use mathlib.Core.Path.{refl}
+use lib.Bits.{or_lt}
+use Rattle.cells.specs.Cell.{mask_digits}
+use Rattle.cells.proofs.either.Goals as goal
+
+pub returns : goal.returns
+returns c = record { union = refl; fitting = or_lt mask_digits c.args.a c.args.b c.requires.left c.requires.right }

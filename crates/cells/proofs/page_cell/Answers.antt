@@ -1,0 +1,17 @@
+-- `cells::page_cell` meets its contract. Assumes nothing.
+use borrow.Author.Tests.{eq-eqb, ne_eqb}
+use lib.Pow.{pow-lt}
+use native.Mathlib.Omega.{arith}
+use Rattle.cells.proofs.page_cell.Goals as goal
+
+pub overflow_mul-result : goal.overflow_mul-result
+overflow_mul-result c = omega (arith, pow-lt c.requires)
+
+pub overflow_add-result : goal.overflow_add-result
+overflow_add-result c = omega (arith, pow-lt c.requires)
+
+pub returns-then-bits-eq0 : goal.returns-then-bits-eq0
+returns-then-bits-eq0 c = rw (eq-eqb c.args.bits 0 (omega arith)) (omega arith)
+
+pub returns-else-bits-eq0 : goal.returns-else-bits-eq0
+returns-else-bits-eq0 c = rw (ne_eqb c.args.bits 0 (omega arith)) (omega arith)
