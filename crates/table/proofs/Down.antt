@@ -13,11 +13,9 @@ use native.Mathlib.Omega.{arith}
 use Rattle.cells.specs.Cell.{has_room_for, has_size}
 use Rattle.digits.specs.Digits.{bit_at}
 use Rattle.laws.proofs.Logic.{no_some}
-use Rattle.meaning.proofs.Played.{at}
 use Rattle.meaning.specs.Blocks.{pages}
 use Rattle.meaning.specs.Search.{has, or_else}
 use Rattle.trees.proofs.Sums.{best_run}
-use Rattle.trees.specs.Change.{left, right}
 use Rattle.trees.specs.Leftmost.{first_page, first_run, has_room}
 use Rattle.trees.specs.Tree.{Tree, WF, cut, empty, is_empty, pair, wf_cut, wf_empty, wf_whole, whole}
 use Rattle.table.proofs.Cells.{cell_mask, cell_room, enc_wf}

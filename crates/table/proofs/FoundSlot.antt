@@ -12,7 +12,6 @@ use Rattle.digits.specs.Digits.{First}
 use Rattle.laws.proofs.Logic.{and_left, bind_some, has_bind}
 use Rattle.laws.proofs.Searches.{lowest_found}
 use Rattle.laws.proofs.Sizes.{slots_most}
-use Rattle.meaning.proofs.Played.{at}
 use Rattle.meaning.specs.Answers.{clear, free, fresh_place, has_slot, lowest_slot, served_place, serves}
 use Rattle.meaning.specs.Blocks.{Block, Live, size_count, slot, slots, small}
 use Rattle.meaning.specs.Search.{bind, has, least, lowest}

@@ -13,8 +13,6 @@ use native.Mathlib.Numerals.{add-one}
 use native.Mathlib.Omega.{arith}
 use Rattle.cells.specs.Cell.{tag_in}
 use Rattle.laws.proofs.Logic.{le_or_lt, split}
-use Rattle.meaning.proofs.Played.{at}
-use Rattle.meaning.specs.Blocks.{pages}
 use Rattle.trees.proofs.Runs.{span}
 use Rattle.trees.specs.Change.{Change, here, left, right}
 use Rattle.trees.specs.Tree.{Tree, empty, pair, vacant, whole}
@@ -121,7 +119,7 @@ module _ (t : List ℕ) (pages : ℕ) where
   located_up n v w h q g = ap (λ (x : ℕ). located (suc n) t x h) q ∙ located_skip t n v h g
 
   -- no node on the way from a part up to the whole has a tag
-  pub located_past : {j d i : ℕ} {S N T T' : Tree} (k n u v : ℕ) → Change j S N d i T T' → Encodes t pages v (over d k) T → over d k < 62 → u + i ≡ v * 2 ^ d + j
+  pub located_past : {j : ℕ} {S N : Tree} {d i : ℕ} {T T' : Tree} (k n u v : ℕ) → Change j S N d i T T' → Encodes t pages v (over d k) T → over d k < 62 → u + i ≡ v * 2 ^ d + j
       → located (over d n) t (u / 2) (suc k) ≡ located n t (v / 2) (suc (over d k))
   located_past k n u v here e low q = let same : u ≡ v = omega arith in rw same refl
   located_past k n u v (left {d = d} {l = l} r c) e low q =

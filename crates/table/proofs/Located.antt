@@ -13,10 +13,9 @@ use Rattle.cells.specs.Cell.{tag_in, whole_tag}
 use Rattle.digits.specs.Digits.{bit_at}
 use Rattle.laws.proofs.Allowing.{block_size}
 use Rattle.laws.proofs.Logic.{and_false, and_right, le_or_lt, split}
-use Rattle.meaning.specs.Answers.{found, holds, starts_at}
+use Rattle.meaning.specs.Answers.{holds, starts_at}
 use Rattle.meaning.specs.Blocks.{Allowed, BeforeAll, Block, Live, allowed_none, allowed_some, arena, before_none, before_some, ends, large, page_bytes, size_count, slot, slots}
 use Rattle.meaning.specs.Search.{find}
-use Rattle.trees.specs.Change.{here}
 use Rattle.table.proofs.Sights.{Sight, block_holds, sees_large, sees_none, sees_page, slot_of, tree_sight}
 use Rattle.table.proofs.Standing.{stands_low}
 use Rattle.table.proofs.Summaries.{open_bit}

@@ -1,5 +1,5 @@
 -- One part of a tree replaced in a table: stored in its place, and climbed from. Assumes nothing.
-use mathlib.Core.Path.{◌∙◌, ◌≡◌, ap, subst}
+use mathlib.Core.Path.{◌∙◌, ◌≡◌, ap, subst, sym}
 use mathlib.Core.List.{List}
 use Prim.Native.Nat.{◌*◌, ◌+◌, ◌-◌, ◌/◌, ◌<◌, ◌^◌, ◌≤◌, suc, ℕ}
 use lib.ListN.{get_or, length}
@@ -35,7 +35,7 @@ node_right : (w v i j d : ℕ) → w + i ≡ v * 2 ^ suc d + j → w + (i + 2 ^ 
 node_right w v i j d e = omega (arith, node_twice v d, mul_assoc 2 v (2 ^ d), add-mul (2 * v) 1 (2 ^ d))
 
 -- a table that holds the tree holds the part at its node
-pub part_there : {j d i : ℕ} {S N T T' : Tree} (t : List ℕ) (pages w v k : ℕ) → Change j S N d i T T' → w + i ≡ v * 2 ^ d + j → Encodes t pages v (over d k) T → Encodes t pages w k S
+pub part_there : {j : ℕ} {S N : Tree} {d i : ℕ} {T T' : Tree} (t : List ℕ) (pages w v k : ℕ) → Change j S N d i T T' → w + i ≡ v * 2 ^ d + j → Encodes t pages v (over d k) T → Encodes t pages w k S
 part_there {S = S} t pages w v k here n e = subst (λ x. Encodes t pages x k S) (omega arith) e
 part_there {j} {i = i} t pages w v k (left {d = d} r c) n e = part_there t pages w (2 * v) k c (node_left w v i j d n) e.2
 part_there {j} {i = i} t pages w v k (right {d = d} l c) n e = part_there t pages w (2 * v + 1) k c (node_right w v i j d n) e.3
@@ -62,13 +62,14 @@ module _ (t t' : List ℕ) (pages w k : ℕ) (fits : 2 * pages ≤ length t) (a 
       → Encodes (climbed d t' w k) pages (2 * v) (over d k) l → Encodes (climbed d t' w k) pages (2 * v + 1) (over d k) r → Encodes (climbed (suc d) t' w k) pages v (suc (over d k)) (pair l r)
   climb_pair d v x l r small p q pos low el er =
       let top : above (suc d) w ≡ v = above_half d w ∙ (ap (λ (y : ℕ). y / 2) p ∙ q) in
-      rw (climbed_last d t' w k, top) (mended_enc (climbed d t' w k) pages v (over d k) l r pos (omega (arith, above_le (suc d) w)) (omega (arith, climbed_length d t' w k, a.long)) low el er)
+      let last : climbed (suc d) t' w k ≡ mended (climbed d t' w k) v (over d k) = climbed_last d t' w k ∙ ap (λ (y : ℕ). mended (climbed d t' w k) y (over d k)) top in
+      subst (λ (y : List ℕ). Encodes y pages v (suc (over d k)) (pair l r)) (sym last) (mended_enc (climbed d t' w k) pages v (over d k) l r pos (omega (arith, above_le (suc d) w)) (omega (arith, climbed_length d t' w k, a.long)) low el er)
 
   -- the whole climb
-  pub part_changed : {j d i : ℕ} {S N T T' : Tree} (v : ℕ) → Change j S N d i T T' → w + i ≡ v * 2 ^ d + j → 1 ≤ v → over d k < 62
+  pub part_changed : {j : ℕ} {S N : Tree} {d i : ℕ} {T T' : Tree} (v : ℕ) → Change j S N d i T T' → w + i ≡ v * 2 ^ d + j → 1 ≤ v → over d k < 62
       → Encodes t pages v (over d k) T → Encodes t' pages w k N → Encodes (climbed d t' w k) pages v (over d k) T'
   part_changed {N = N} v here n pos low e f = subst (λ x. Encodes t' pages x k N) (omega arith) f
-  part_changed {j} {i = i} {N = N} v (left {d = d} {l = l} {l' = l'} r c) n pos low e f =
+  part_changed {j} {N = N} {i = i} v (left {d = d} {l = l} {l' = l'} r c) n pos low e f =
       let small = enc_small t' pages w k N f in
       let n' = node_left w v i j d n in
       let p = part_above w (2 * v) c n' in
@@ -76,7 +77,7 @@ module _ (t t' : List ℕ) (pages w k : ℕ) (fits : 2 * pages ≤ length t) (a 
       climb_pair d v (2 * v) l' r small p (omega arith) pos (omega arith)
       (part_changed (2 * v) c n' (omega arith) (omega arith) e.2 f)
       (enc_elsewhere t (climbed d t' w k) pages (2 * v) (2 * v + 1) (over d k) r b (off_larger (2 * v) (2 * v + 1) (omega arith)) (off_sibling v pos) e.3)
-  part_changed {j} {i = i} {N = N} v (right {d = d} l {r = r} {r' = r'} c) n pos low e f =
+  part_changed {j} {N = N} {i = i} v (right {d = d} l {r = r} {r' = r'} c) n pos low e f =
       let small = enc_small t' pages w k N f in
       let n' = node_right w v i j d n in
       let p = part_above w (2 * v + 1) c n' in

@@ -14,7 +14,6 @@ use native.Mathlib.Omega.{arith}
 use Rattle.cells.specs.Cell.{tag_in, whole_tag}
 use Rattle.digits.specs.Digits.{ones}
 use Rattle.laws.proofs.Logic.{split}
-use Rattle.meaning.proofs.Played.{at}
 use Rattle.meaning.specs.Answers.{live_bytes}
 use Rattle.meaning.specs.Blocks.{Live, arena, page_bytes, size_count, slot, slots, small}
 use Rattle.meaning.specs.Bytes.{total}

@@ -11,7 +11,6 @@ use native.Mathlib.Nat.{pow-succ'}
 use native.Mathlib.Omega.{arith}
 use Rattle.digits.specs.Digits.{ones}
 use Rattle.laws.proofs.Logic.{le_or_lt}
-use Rattle.meaning.proofs.Played.{at}
 use Rattle.meaning.specs.Blocks.{Allowed, Live, m_most, slots}
 use Rattle.trees.proofs.Exists.{tree_of}
 use Rattle.trees.proofs.Unique.{tree_unique}

@@ -15,14 +15,13 @@ use Rattle.cells.specs.Cell.{tag_in, whole_tag}
 use Rattle.digits.specs.Digits.{bit_at}
 use Rattle.laws.proofs.Logic.{and_false, le_or_lt}
 use Rattle.laws.proofs.Sizes.{small_pos}
-use Rattle.meaning.proofs.Played.{at}
-use Rattle.meaning.specs.Answers.{found, holds}
+use Rattle.meaning.specs.Answers.{holds}
 use Rattle.meaning.specs.Blocks.{Block, Live, arena, ends, large, page_bytes, size_count, slot, slots, small}
 use Rattle.meaning.specs.Search.{find}
 use Rattle.trees.proofs.Given.{Single, find_spot, near_holds, single_cut, single_empty, single_whole, slots_find, slots_find_none, spot}
 use Rattle.trees.proofs.Runs.{span}
 use Rattle.trees.specs.Change.{Change}
-use Rattle.trees.specs.Tree.{Tree, blocks, cut, empty, whole}
+use Rattle.trees.specs.Tree.{Tree, blocks, cut, empty, pair, whole}
 use Rattle.table.proofs.Cells.{cell_tag, enc_wf}
 use Rattle.table.proofs.Locate.{above_div, located_past, located_skip, located_stop, located_whole}
 use Rattle.table.proofs.Mended.{part_there}
@@ -116,6 +115,7 @@ module _ (m : ℕ) (t : List ℕ) (o : ℕ) (low : m < 62) (x h v : ℕ) (found 
       let v_u : v ≡ u = node ∙ (ap (λ (y : ℕ). above y x) h_0 ∙ a) in
       sees_page c taken h_0 e.1.0 e.1.2 (rw v_u tag) (rw v_u e.3) (f ∙ find_slot c (j * 2 ^ 0) o taken (omega arith))
   part_sight (suc k) d j u L (cut c taken) single_cut e₀ q a lo hi e past f = absurd e.1
+  part_sight k d j u L (pair l r) single e₀ q a lo hi e past f = elim single [ ]
 
   -- in a table that holds a tree
   pub tree_sight : (T : Tree) → Encodes t (2 ^ m) 1 m T → o < arena m → x ≡ 2 ^ m + o / page_bytes → Sight m (blocks m 0 T) t o h v

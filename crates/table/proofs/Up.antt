@@ -12,7 +12,6 @@ use native.Mathlib.Numerals.{add-one}
 use native.Mathlib.Omega.{arith}
 use Rattle.cells.specs.Cell.{joined, mask_in}
 use Rattle.laws.proofs.Logic.{le_or_lt}
-use Rattle.meaning.proofs.Played.{at}
 use Rattle.table.proofs.Nodes.{over_suc}
 use Rattle.table.proofs.Off.{Elsewhere, above_le, elsewhere_cell, elsewhere_half, elsewhere_next}
 use Rattle.table.specs.Walks.{above, climbed, mended, over}
