@@ -1,0 +1,8 @@
+-- `walks::node_above` meets its contract: each level above halves the number. Assumes nothing.
+use mathlib.Core.Path.{sym}
+use borrow.Author.Rules.{rules}
+use Rattle.table.proofs.Locate.{above_div}
+use Rattle.walks.proofs.node_above.Goals as goal
+
+pub returns : goal.returns
+returns c = sym (above_div c.args.h c.args.leaf)
