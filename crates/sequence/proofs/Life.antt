@@ -26,7 +26,7 @@ use Rattle.sequence.specs.Serving.{Promised, Serves}
 
 -- the moment when the requests rs have been served, from no live block on
 pub record Moment (m : ℕ) (rs : List Request) : Type 0 where
-  -- the live blocks are a set that section 2 allows, and a check_up says sound: the set has a table
+  -- the live blocks are a set that section 2 allows, and a check-up says sound: the set has a table
   pub allowed : Allowed m (after_all m [] rs)
   pub check_up : answer m (after_all m [] rs) check_up ≡ sound
   pub has_table : m ≤ m_most → (t : List ℕ) × Stands m (after_all m [] rs) t × (length t ≡ need m)
@@ -74,7 +74,7 @@ lived_stands {m} (lived rs requests t t' a' l s) = subst (λ (L : Live). Stands 
 lived_stands (began t t' r o p) = (p.own o).1
 lived_stands {m} (asked rs q t t' r l p) = subst (λ (L : Live). Stands m L t') (sym (after_all_append m [] rs (q ∷ []))) (p.right (after_all m [] rs) (lived_stands l)).1
 
--- so a check_up says sound
+-- so a check-up says sound
 pub lived_sound : {m : ℕ} {rs : List Request} {t : List ℕ} {r : Reply} → Lived m rs t → Exact m t r → as_answer r ≡ sound
 lived_sound {m} {rs} l x = x.is_sound (after_all m [] rs) (lived_stands l)
 
