@@ -1,7 +1,7 @@
 -- What taking a block ensures. Assumes nothing.
 use Rattle.std.specs.Prelude.{◌≡◌, List, ◌+◌, ◌≤◌, ℕ, length}
 use Rattle.std.proofs.Math.Option.{Option}
-use Rattle.meaning.specs.Answers.{insert_some, offset, or_refuse, place, refused}
+use Rattle.meaning.specs.Answers.{insert_some, offset, or_refuse, refused}
 use Rattle.meaning.specs.Blocks.{Block, Live, arena}
 use Rattle.table.specs.Table.{Stands}
 use Rattle.terms.specs.Reply.{as_answer}

@@ -1,6 +1,6 @@
 -- What asking for the block of a byte ensures. Assumes nothing.
 use Rattle.std.specs.Prelude.{◌≡◌, List, ◌+◌, ◌<◌, ◌≤◌, ℕ}
-use Rattle.meaning.specs.Answers.{answer, found, refused, start, which}
+use Rattle.meaning.specs.Answers.{answer, found, refused, which}
 use Rattle.meaning.specs.Blocks.{Live, arena}
 use Rattle.table.specs.Table.{Stands}
 use Rattle.terms.specs.Reply.{as_answer}

@@ -1,5 +1,4 @@
 -- `arena::cells_needed` meets its contract: the product is too small to be cut off. Assumes nothing.
-use borrow.Author.Rules.{rules}
 use lib.Pow.{pow_mono}
 use native.Mathlib.Omega.{arith}
 use Rattle.arena.proofs.cells_needed.Goals as goal

@@ -1,6 +1,5 @@
 -- `arena::check_up` meets its contract: by the laws of what is refused at once, and of the part of the table. Assumes nothing.
 use borrow.Author.Rules.{rules}
-use lib.ListN.{length}
 use native.Mathlib.Omega.{arith}
 use Rattle.arena.proofs.Reading.{check_refused, check_served}
 use Rattle.arena.proofs.Refused.{table_suits}

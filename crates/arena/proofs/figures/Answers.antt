@@ -1,6 +1,5 @@
 -- `arena::figures` meets its contract: by the laws of what is refused at once, and of the part of the table. Assumes nothing.
 use borrow.Author.Rules.{rules}
-use lib.ListN.{length}
 use native.Mathlib.Omega.{arith}
 use Rattle.meaning.specs.Answers.{figures}
 use Rattle.arena.proofs.Reading.{figures_served}

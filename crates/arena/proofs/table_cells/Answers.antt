@@ -1,5 +1,4 @@
 -- `arena::table_cells` meets its contract: the test decides the choice. Assumes nothing.
-use borrow.Author.Rules.{rules}
 use borrow.Author.Tests.{le-ltb, lt-ltb}
 use native.Mathlib.Omega.{arith}
 use Rattle.meaning.specs.Blocks.{m_most}

@@ -1,5 +1,4 @@
 -- `arena::table_refusal` meets its contract: each test decides one choice. Assumes nothing.
-use borrow.Author.Rules.{rules}
 use borrow.Author.Tests.{le-leb, le-ltb, lt-leb, lt-ltb}
 use native.Mathlib.Omega.{arith}
 use Rattle.meaning.specs.Blocks.{m_most}

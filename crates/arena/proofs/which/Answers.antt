@@ -1,7 +1,6 @@
 -- `arena::which` meets its contract: by the laws of what is refused at once, and of the part of the table. Assumes nothing.
 use Prim.Native.Nat.{◌<◌, ◌≤◌}
 use borrow.Author.Rules.{rules}
-use lib.ListN.{length}
 use native.Mathlib.Omega.{arith}
 use Rattle.meaning.specs.Answers.{which}
 use Rattle.meaning.specs.Blocks.{arena}

@@ -2,13 +2,11 @@ use mathlib.Core.Path.{◌∙◌, ◌≡◌, ap, sym}
 use mathlib.Core.Logic.{⊎_elim}
 use Prim.Native.Nat.{◌*◌, ◌+◌, ◌-◌, ◌<◌, ◌^◌, ◌≤◌, ℕ}
 use borrow.Author.Rules.{rules}
-use borrow.Author.Tests.{not-false, not-true}
 use lib.Pow.{pow_mono, pow_pos}
 use native.Mathlib.Omega.{arith}
 use Rattle.laws.proofs.Logic.{le_or_lt}
 use Rattle.table.proofs.Sound.{levels_sound_more, levels_sound_none}
 use Rattle.table.proofs.Start.{half_power}
-use Rattle.table.specs.Local.{LevelsSound}
 use Rattle.check_up.proofs.Verdict.{level_failed, level_passed, levels_passed, spare_failed}
 use Rattle.check_up.proofs.check_table.Goals as goal
 
@@ -28,13 +26,13 @@ returns-then-spare-ne0 c = record { verdict = spare_failed _ (λ e. c.if-spare-n
 
 pub loop-h-init : goal.loop-h-init
 loop-h-init c = let m : ℕ = c.args.m in (
-      search rules,
-      λ x. c.page_count-first.ensures ∙ ap (λ (k : ℕ). 2 ^ k) (omega arith),
-      (λ x p. absurd (omega arith)),
-      (λ z. omega arith),
-      (λ x. absurd (omega arith)),
-      levels_sound_none _ m,
-    )
+  search rules,
+  λ x. c.page_count-first.ensures ∙ ap (λ (k : ℕ). 2 ^ k) (omega arith),
+  (λ x p. absurd (omega arith)),
+  (λ z. omega arith),
+  (λ x. absurd (omega arith)),
+  levels_sound_none _ m,
+)
 
 pub level_sound-requires : goal.level_sound-requires
 level_sound-requires c = let last = c.loop-h in

@@ -1,17 +1,8 @@
 -- `check_up::check_table` meets its contract. The loop's invariant: the levels lower than h pass, and what is still to be looked at was not
 -- yet counted. Assumes nothing.
-use mathlib.Core.Path.{◌∙◌, ◌≡◌, ap, sym}
-use mathlib.Core.Logic.{⊎_elim}
-use Prim.Native.Nat.{◌*◌, ◌+◌, ◌-◌, ◌<◌, ◌^◌, ◌≤◌, ℕ}
-use borrow.Author.Rules.{rules}
-use borrow.Author.Tests.{not-false, not-true}
-use lib.Pow.{pow_mono, pow_pos}
-use native.Mathlib.Omega.{arith}
-use Rattle.laws.proofs.Logic.{le_or_lt}
-use Rattle.table.proofs.Sound.{levels_sound_more, levels_sound_none}
-use Rattle.table.proofs.Start.{half_power}
+use mathlib.Core.Path.{◌≡◌}
+use Prim.Native.Nat.{◌*◌, ◌+◌, ◌-◌, ◌<◌, ◌^◌, ◌≤◌}
 use Rattle.table.specs.Local.{LevelsSound}
-use Rattle.check_up.proofs.Verdict.{level_failed, level_passed, levels_passed, spare_failed}
 use Rattle.check_up.proofs.check_table.Given as goal
 
 abbrev pub invariant-loop-h : goal.invariant-loop-h

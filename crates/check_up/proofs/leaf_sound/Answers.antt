@@ -2,7 +2,6 @@
 use mathlib.Core.Path.{◌∙◌, ap}
 use mathlib.Core.Bool.{cond}
 use Prim.Native.Nat.{◌+◌, ◌-◌, ◌^◌, ℕ}
-use borrow.Author.Rules.{rules}
 use lib.Dec.{eqb}
 use native.Mathlib.Omega.{arith}
 use Rattle.cells.specs.Cell.{packed}

@@ -1,11 +1,9 @@
 use mathlib.Core.Path.{◌≡◌, refl, sym}
-use Prim.Native.Nat.{◌*◌, ◌+◌, ◌-◌, ◌^◌, ◌≤◌}
+use Prim.Native.Nat.{◌*◌}
 use borrow.Author.Rules.{rules}
-use borrow.Author.Tests.{not-false, not-true}
 use native.Mathlib.Omega.{arith}
 use Rattle.table.proofs.Sound.{run_sound_more, run_sound_none}
 use Rattle.table.proofs.Start.{level_few}
-use Rattle.table.specs.Local.{RunSound}
 use Rattle.check_up.specs.Checked.{all_pass, one_fails}
 use Rattle.check_up.proofs.level_sound.Goals as goal
 

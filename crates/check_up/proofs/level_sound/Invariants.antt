@@ -1,13 +1,7 @@
 -- `check_up::level_sound` meets its contract. The loop's invariant: the nodes before v pass, at three accesses each, a leaf at two. Assumes nothing.
-use mathlib.Core.Path.{◌≡◌, refl, sym}
+use mathlib.Core.Path.{◌≡◌}
 use Prim.Native.Nat.{◌*◌, ◌+◌, ◌-◌, ◌^◌, ◌≤◌}
-use borrow.Author.Rules.{rules}
-use borrow.Author.Tests.{not-false, not-true}
-use native.Mathlib.Omega.{arith}
-use Rattle.table.proofs.Sound.{run_sound_more, run_sound_none}
-use Rattle.table.proofs.Start.{level_few}
 use Rattle.table.specs.Local.{RunSound}
-use Rattle.check_up.specs.Checked.{all_pass, one_fails}
 use Rattle.check_up.proofs.level_sound.Given as goal
 
 abbrev pub invariant-loop-v : goal.invariant-loop-v

@@ -1,7 +1,6 @@
 -- `check_up::node_sound` meets its contract. Assumes nothing.
 use mathlib.Core.Path.{◌∙◌, ap, sym}
 use Prim.Native.Nat.{ℕ}
-use borrow.Author.Rules.{rules}
 use lib.Dec.{eqb}
 use native.Mathlib.Omega.{arith}
 use Rattle.check_up.proofs.Cases.{node_left_held, node_no_block, node_pair, node_right_free}

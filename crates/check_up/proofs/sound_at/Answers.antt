@@ -2,7 +2,6 @@
 use mathlib.Core.Path.{◌∙◌, ap, ap₂, sym}
 use Prim.Native.Nat.{◌*◌, ◌+◌, ◌-◌, ◌<◌, ◌≤◌, ◌^◌, suc, ℕ}
 use Rattle.std.specs.Prelude.{◌≢◌}
-use borrow.Author.Rules.{rules}
 use lib.ListN.{get_or}
 use lib.Pow.{pow_mono}
 use native.Mathlib.Nat.{pow-succ'}

@@ -1,11 +1,9 @@
 use mathlib.Core.Path.{◌∙◌, ◌≡◌, ap}
-use Prim.Native.Nat.{◌*◌, ◌+◌, ◌-◌, ◌<◌, ◌^◌, ◌≤◌, ℕ}
-use borrow.Author.Rules.{rules}
+use Prim.Native.Nat.{◌+◌, ◌^◌, ◌≤◌, ℕ}
 use lib.Pow.{pow_mono}
 use native.Mathlib.Omega.{arith}
 use Rattle.table.proofs.NodeSums.{levels_held_le}
 use Rattle.table.proofs.Start.{half_power}
-use Rattle.table.specs.Sums.{levels_sum, node_held, node_live}
 use Rattle.figures.proofs.Levels.{accesses_next, levels_end, levels_held_more, levels_live_more, levels_next, levels_start}
 use Rattle.figures.proofs.all_sums.Goals as goal
 

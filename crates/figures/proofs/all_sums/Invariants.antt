@@ -1,14 +1,8 @@
 -- `figures::all_sums` meets its contract. The loop's invariant: the levels lower than h are summed, and above the leaves the accesses that are
 -- left, those of the level of h and of all above it, are at most twice that level's nodes, less 1. Assumes nothing.
-use mathlib.Core.Path.{◌∙◌, ◌≡◌, ap}
-use Prim.Native.Nat.{◌*◌, ◌+◌, ◌-◌, ◌<◌, ◌^◌, ◌≤◌, ℕ}
-use borrow.Author.Rules.{rules}
-use lib.Pow.{pow_mono}
-use native.Mathlib.Omega.{arith}
-use Rattle.table.proofs.NodeSums.{levels_held_le}
-use Rattle.table.proofs.Start.{half_power}
+use mathlib.Core.Path.{◌≡◌}
+use Prim.Native.Nat.{◌*◌, ◌+◌, ◌-◌, ◌<◌, ◌^◌, ◌≤◌}
 use Rattle.table.specs.Sums.{levels_sum, node_held, node_live}
-use Rattle.figures.proofs.Levels.{accesses_next, levels_end, levels_held_more, levels_live_more, levels_next, levels_start}
 use Rattle.figures.proofs.all_sums.Given as goal
 
 abbrev pub invariant-loop-h : goal.invariant-loop-h

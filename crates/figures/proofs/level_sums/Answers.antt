@@ -1,11 +1,9 @@
 use mathlib.Core.Path.{◌≡◌}
-use Prim.Native.Nat.{◌*◌, ◌+◌, ◌-◌, ◌<◌, ◌^◌, ◌≤◌}
+use Prim.Native.Nat.{◌*◌}
 use borrow.Author.Rules.{rules}
 use lib.Pow.{pow_mono}
 use native.Mathlib.Omega.{arith}
-use Rattle.meaning.specs.Bytes.{total}
 use Rattle.table.proofs.Start.{level_few}
-use Rattle.table.specs.Sums.{node_held, node_live}
 use Rattle.figures.proofs.Levels.{level_end, level_held_more, level_live_more, level_next, level_start}
 use Rattle.figures.proofs.level_sums.Goals as goal
 

@@ -1,7 +1,6 @@
 -- `figures::page_live` meets its contract: the live slots of a page are at most the page, so the product fits. Assumes nothing.
 use mathlib.Core.Path.{◌≡◌, sym}
 use Prim.Native.Nat.{◌-◌}
-use borrow.Author.Rules.{rules}
 use native.Mathlib.Nat.{mul-zero}
 use native.Mathlib.Omega.{arith}
 use Rattle.cells.specs.Cell.{open_count}

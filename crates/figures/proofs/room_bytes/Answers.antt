@@ -1,6 +1,5 @@
 -- `figures::room_bytes` meets its contract. Assumes nothing.
 use mathlib.Core.Path.{◌∙◌, sym}
-use borrow.Author.Rules.{rules}
 use native.Mathlib.Omega.{arith}
 use Rattle.trees.specs.Sums.{room_bytes}
 use Rattle.figures.proofs.Nodes.{room_is}

@@ -1,6 +1,5 @@
 -- `figures::sum_table` meets its contract: the sums and the root's room make the answer. Assumes nothing.
 use Prim.Native.Nat.{◌+◌}
-use borrow.Author.Rules.{rules}
 use lib.Pow.{pow_mono, pow_pos}
 use native.Mathlib.Omega.{arith}
 use Rattle.table.specs.Table.{need}

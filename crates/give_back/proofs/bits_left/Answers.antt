@@ -1,6 +1,5 @@
 -- `give_back::bits_left` meets its contract: whether all slots of the page are open. Assumes nothing.
 use mathlib.Core.Path.{◌∙◌, ap, refl}
-use borrow.Author.Rules.{rules}
 use borrow.Author.Tests.{eq-eqb, ne_eqb}
 use native.Mathlib.Omega.{arith}
 use Rattle.digits.specs.Digits.{ones}

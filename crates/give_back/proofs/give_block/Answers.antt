@@ -1,6 +1,5 @@
 -- `give_back::give_block` meets its contract, for each way out of it. Assumes nothing.
 use mathlib.Core.Path.{◌∙◌, refl, sym}
-use borrow.Author.Rules.{rules}
 use native.Mathlib.Omega.{arith}
 use Rattle.give_back.proofs.Spots.{spot_high, spot_leaf, spot_none, spot_strange, spot_tag}
 use Rattle.give_back.proofs.give_block.Goals as goal

@@ -1,6 +1,5 @@
 -- `give_back::give_run` meets its contract: the block starts at the offset, or not. Assumes nothing.
 use mathlib.Core.Path.{refl}
-use borrow.Author.Rules.{rules}
 use native.Mathlib.Omega.{arith}
 use Rattle.give_back.proofs.Runs.{run_done, run_node, run_refused}
 use Rattle.give_back.proofs.give_run.Goals as goal

@@ -1,6 +1,5 @@
 -- `give_back::give_slot` meets its contract, for each way out of it. Assumes nothing.
 use mathlib.Core.Path.{◌∙◌, refl, sym}
-use borrow.Author.Rules.{rules}
 use native.Mathlib.Omega.{arith}
 use Rattle.laws.proofs.Sizes.{small_pos}
 use Rattle.give_back.proofs.Slots.{slot_done, slot_idle_refused, slot_low, slot_past_refused, slot_within_refused}

@@ -1,10 +1,8 @@
 use mathlib.Core.Path.{◌∙◌, ◌≡◌, refl, sym}
-use Prim.Native.Nat.{◌%◌, ◌-◌, ◌≤◌}
 use borrow.Author.Rules.{rules}
-use lib.ListN.{drop, length}
+use lib.ListN.{length}
 use native.Mathlib.Omega.{arith}
 use Rattle.sequence.proofs.Known.{known_end, known_odd, known_on, known_stop}
-use Rattle.sequence.specs.Numbers.{known}
 use Rattle.sequence.proofs.all_known.Goals as goal
 
 pub returns-then-n-ne0 : goal.returns-then-n-ne0

@@ -1,10 +1,7 @@
 -- `sequence::all_known` meets its contract. The loop's invariant: whether all is known is whether the rest is known. Assumes nothing.
-use mathlib.Core.Path.{◌∙◌, ◌≡◌, refl, sym}
+use mathlib.Core.Path.{◌≡◌}
 use Prim.Native.Nat.{◌%◌, ◌-◌, ◌≤◌}
-use borrow.Author.Rules.{rules}
 use lib.ListN.{drop, length}
-use native.Mathlib.Omega.{arith}
-use Rattle.sequence.proofs.Known.{known_end, known_odd, known_on, known_stop}
 use Rattle.sequence.specs.Numbers.{known}
 use Rattle.sequence.proofs.all_known.Given as goal
 

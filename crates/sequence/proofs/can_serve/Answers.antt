@@ -1,7 +1,5 @@
 -- `sequence::can_serve` meets its contract: the three tests, one after the other. Assumes nothing.
 use mathlib.Core.Path.{◌∙◌, sym}
-use borrow.Author.Rules.{rules}
-use borrow.Author.Tests.{not-false, not-true}
 use native.Mathlib.Omega.{arith}
 use Rattle.sequence.proofs.Known.{servable_many, servable_places, servable_unknown}
 use Rattle.sequence.proofs.can_serve.Goals as goal

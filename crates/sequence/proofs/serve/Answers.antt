@@ -1,12 +1,9 @@
-use mathlib.Core.Path.{◌∙◌, ◌≡◌, refl, sym}
-use Prim.Native.Nat.{◌-◌}
+use mathlib.Core.Path.{◌∙◌, refl, sym}
 use borrow.Author.Rules.{rules}
-use borrow.Author.Tests.{not-false, not-true}
-use lib.ListN.{length}
 use native.Mathlib.Omega.{arith}
 use Rattle.laws.proofs.Logic.{contra}
-use Rattle.sequence.proofs.Going.{Going, going_end, going_more, going_start}
-use Rattle.sequence.proofs.Known.{Servable, servable_parts}
+use Rattle.sequence.proofs.Going.{going_end, going_more, going_start}
+use Rattle.sequence.proofs.Known.{servable_parts}
 use Rattle.sequence.proofs.One.{kept_same}
 use Rattle.sequence.proofs.serve.Goals as goal
 

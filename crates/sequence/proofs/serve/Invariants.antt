@@ -1,14 +1,9 @@
 -- `sequence::serve` meets its contract. The loop's invariant: the requests up to i have been served (`Going`). Assumes nothing.
-use mathlib.Core.Path.{◌∙◌, ◌≡◌, refl, sym}
+use mathlib.Core.Path.{◌≡◌}
 use Prim.Native.Nat.{◌-◌}
-use borrow.Author.Rules.{rules}
-use borrow.Author.Tests.{not-false, not-true}
 use lib.ListN.{length}
-use native.Mathlib.Omega.{arith}
-use Rattle.laws.proofs.Logic.{contra}
-use Rattle.sequence.proofs.Going.{Going, going_end, going_more, going_start}
-use Rattle.sequence.proofs.Known.{Servable, servable_parts}
-use Rattle.sequence.proofs.One.{kept_same}
+use Rattle.sequence.proofs.Going.{Going}
+use Rattle.sequence.proofs.Known.{Servable}
 use Rattle.sequence.proofs.serve.Given as goal
 
 abbrev pub invariant-loop-i : goal.invariant-loop-i

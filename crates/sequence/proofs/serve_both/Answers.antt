@@ -1,7 +1,5 @@
 -- `sequence::serve_both` meets its contract: what `serve` promises of each unit, put side by side. Assumes nothing.
 use mathlib.Core.Path.{◌∙◌, refl, sym}
-use borrow.Author.Rules.{rules}
-use borrow.Author.Tests.{not-false, not-true}
 use Rattle.laws.proofs.Logic.{contra}
 use Rattle.sequence.proofs.Alike.{new_after_start, no_memory}
 use Rattle.sequence.proofs.One.{kept_same}

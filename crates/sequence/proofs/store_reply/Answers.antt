@@ -1,5 +1,4 @@
 -- `sequence::store_reply` meets its contract: four stores in a row. Assumes nothing.
-use borrow.Author.Rules.{rules}
 use lib.ListN.{length-set}
 use native.Mathlib.Omega.{arith}
 use Rattle.terms.specs.Reply.{as_answer}

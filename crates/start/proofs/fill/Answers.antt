@@ -1,9 +1,7 @@
 use mathlib.Core.Path.{◌≡◌}
-use Prim.Native.Nat.{◌+◌, ◌-◌, ◌≤◌}
 use borrow.Author.Rules.{rules}
 use native.Mathlib.Omega.{arith}
 use Rattle.table.proofs.Start.{filled_more, filled_none}
-use Rattle.table.specs.Start.{Filled}
 use Rattle.start.proofs.fill.Goals as goal
 
 pub loop-i-init : goal.loop-i-init

@@ -1,9 +1,6 @@
 -- `start::fill` meets its contract. The loop's invariant: the table is filled up to i, and each store was counted. Assumes nothing.
 use mathlib.Core.Path.{◌≡◌}
 use Prim.Native.Nat.{◌+◌, ◌-◌, ◌≤◌}
-use borrow.Author.Rules.{rules}
-use native.Mathlib.Omega.{arith}
-use Rattle.table.proofs.Start.{filled_more, filled_none}
 use Rattle.table.specs.Start.{Filled}
 use Rattle.start.proofs.fill.Given as goal
 

@@ -1,12 +1,10 @@
 use mathlib.Core.Path.{◌∙◌, ◌≡◌, ap, refl}
-use Prim.Native.Nat.{◌*◌, ◌+◌, ◌-◌, ◌<◌, ◌≤◌, ◌^◌, ℕ}
+use Prim.Native.Nat.{◌-◌, ◌<◌, ◌≤◌, ◌^◌, ℕ}
 use borrow.Author.Rules.{rules}
-use lib.ListN.{length}
 use lib.Pow.{pow_mono, pow_pos}
 use native.Mathlib.Omega.{arith}
 use Rattle.table.proofs.Start.{begun_all, begun_more, begun_none, half_power}
 use Rattle.table.specs.Start.{Begun}
-use Rattle.table.specs.Table.{need}
 use Rattle.start.proofs.start_table.Goals as goal
 
 pub overflow_mul-pages : goal.overflow_mul-pages

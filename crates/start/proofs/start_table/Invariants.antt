@@ -1,12 +1,8 @@
 -- `start::start_table` meets its contract. The loop's invariant: the levels lower than h, the bitmaps and the spare cell are filled, and
 -- what is still to be filled was not yet counted. Assumes nothing.
-use mathlib.Core.Path.{◌∙◌, ◌≡◌, ap, refl}
-use Prim.Native.Nat.{◌*◌, ◌+◌, ◌-◌, ◌<◌, ◌≤◌, ◌^◌, ℕ}
-use borrow.Author.Rules.{rules}
+use mathlib.Core.Path.{◌≡◌}
+use Prim.Native.Nat.{◌*◌, ◌+◌, ◌-◌, ◌<◌, ◌≤◌, ◌^◌}
 use lib.ListN.{length}
-use lib.Pow.{pow_mono, pow_pos}
-use native.Mathlib.Omega.{arith}
-use Rattle.table.proofs.Start.{begun_all, begun_more, begun_none, half_power}
 use Rattle.table.specs.Start.{Begun}
 use Rattle.table.specs.Table.{need}
 use Rattle.start.proofs.start_table.Given as goal

@@ -1,5 +1,4 @@
 -- `take::take_block` meets its contract. Assumes nothing.
-use borrow.Author.Rules.{rules}
 use native.Mathlib.Omega.{arith}
 use Rattle.take.proofs.Choices.{block_large, block_small}
 use Rattle.take.proofs.take_block.Goals as goal

@@ -1,7 +1,6 @@
 -- `take::take_run` meets its contract. Assumes nothing.
 use Prim.Native.Nat.{◌-◌, ◌^◌, ◌≤◌, ℕ}
 use borrow.Author.Rules.{rules}
-use borrow.Author.Tests.{not-false, not-true}
 use lib.Pow.{pow_mono, pow_pos}
 use native.Mathlib.Omega.{arith}
 use Rattle.take.proofs.Runs.{run_none, run_odd, run_some}

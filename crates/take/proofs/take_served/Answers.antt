@@ -1,5 +1,4 @@
 -- `take::take_served` meets its contract. Assumes nothing.
-use borrow.Author.Rules.{rules}
 use native.Mathlib.Omega.{arith}
 use Rattle.take.proofs.Served.{served_odd_full, served_odd_slot, served_odd_tag, served_some}
 use Rattle.take.proofs.take_served.Goals as goal

@@ -1,10 +1,7 @@
 use mathlib.Core.Path.{◌≡◌, ◌∙◌, ap, sym}
-use Prim.Native.Nat.{◌*◌, ◌+◌, ◌-◌, ◌<◌, ◌^◌, ◌≤◌}
 use borrow.Author.Rules.{rules}
-use lib.ListN.{length}
 use native.Mathlib.Omega.{arith}
 use Rattle.table.proofs.Down.{deeper, descended_begin, descended_end, descended_left, descended_right, twice}
-use Rattle.table.specs.Walks.{descended}
 use Rattle.walks.specs.Posts.{wants}
 use Rattle.walks.proofs.down.Goals as goal
 

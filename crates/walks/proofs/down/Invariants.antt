@@ -1,11 +1,7 @@
 -- `walks::down` meets its contract. The loop's invariant: at the depth d, v is one of the 2 ^ d nodes there, and the way down from v ends where the way from the root does.
 -- The measure is the levels that are left. Assumes nothing.
-use mathlib.Core.Path.{◌≡◌, ◌∙◌, ap, sym}
+use mathlib.Core.Path.{◌≡◌}
 use Prim.Native.Nat.{◌*◌, ◌+◌, ◌-◌, ◌<◌, ◌^◌, ◌≤◌}
-use borrow.Author.Rules.{rules}
-use lib.ListN.{length}
-use native.Mathlib.Omega.{arith}
-use Rattle.table.proofs.Down.{deeper, descended_begin, descended_end, descended_left, descended_right, twice}
 use Rattle.table.specs.Walks.{descended}
 use Rattle.walks.specs.Posts.{wants}
 use Rattle.walks.proofs.down.Given as goal

@@ -1,12 +1,11 @@
 use mathlib.Core.Path.{◌≡◌, ◌∙◌, ap, refl, sym}
-use Prim.Native.Nat.{◌+◌, ◌-◌, ◌/◌, ◌≤◌, suc, ℕ}
+use Prim.Native.Nat.{◌/◌, ℕ}
 use borrow.Author.Rules.{rules}
 use mathlib.Core.List.{List}
 use lib.ListN.{get_or}
 use native.Mathlib.Omega.{arith}
 use Rattle.cells.specs.Cell.{tag_in}
 use Rattle.table.proofs.Locate.{above_next, located_begin, located_end, located_here, located_turn}
-use Rattle.table.specs.Walks.{above, located}
 use Rattle.walks.proofs.locate.Goals as goal
 
 pub loop-h-init : goal.loop-h-init
@@ -30,19 +29,19 @@ returns-then-tag-ne0 c = let t = c.args.t.now in
 
 pub loop-h-preserved : goal.loop-h-preserved
 loop-h-preserved c = (
-      search rules,
-      search rules,
-      ap (λ (v : ℕ). v / 2) c.loop-h.invariant.2 ∙ sym (above_next c.loop-h.h c.args.leaf),
-      search rules,
-      sym (located_turn c.args.t.now _ c.loop-h.v c.loop-h.h c.loop-h-test.true (sym (tag_read c.args.t.now c.loop-h.v _ _ c.tag_of-tag.ensures c.get-cell.ensures.read) ∙ c.if-tag-ne0.false))
-          ∙ c.loop-h.invariant.4,
-    )
+  search rules,
+  search rules,
+  ap (λ (v : ℕ). v / 2) c.loop-h.invariant.2 ∙ sym (above_next c.loop-h.h c.args.leaf),
+  search rules,
+  sym (located_turn c.args.t.now _ c.loop-h.v c.loop-h.h c.loop-h-test.true (sym (tag_read c.args.t.now c.loop-h.v _ _ c.tag_of-tag.ensures c.get-cell.ensures.read) ∙ c.if-tag-ne0.false))
+      ∙ c.loop-h.invariant.4,
+)
 
 pub returns : goal.returns
 returns c = record {
-      exact = sym (located_end c.args.t.now _ c.loop-h.v c.loop-h.h c.loop-h-test.false) ∙ c.loop-h.invariant.4;
-      tag = λ l. absurd (omega arith);
-      most = omega arith;
-      cost = omega arith;
-      cost_all = omega arith;
-    }
+  exact = sym (located_end c.args.t.now _ c.loop-h.v c.loop-h.h c.loop-h-test.false) ∙ c.loop-h.invariant.4;
+  tag = λ l. absurd (omega arith);
+  most = omega arith;
+  cost = omega arith;
+  cost_all = omega arith;
+}

@@ -1,12 +1,7 @@
 -- `walks::locate` meets its contract. The loop's invariant: v is the node h levels above the leaf, and the way up from v ends where the way from the leaf does.
 -- The measure is the levels that are left. Assumes nothing.
-use mathlib.Core.Path.{◌≡◌, ◌∙◌, ap, refl, sym}
-use Prim.Native.Nat.{◌+◌, ◌-◌, ◌/◌, ◌≤◌, suc, ℕ}
-use borrow.Author.Rules.{rules}
-use lib.ListN.{get_or}
-use native.Mathlib.Omega.{arith}
-use Rattle.cells.specs.Cell.{tag_in}
-use Rattle.table.proofs.Locate.{above_next, located_begin, located_end, located_here, located_turn}
+use mathlib.Core.Path.{◌≡◌}
+use Prim.Native.Nat.{◌+◌, ◌-◌, ◌≤◌, suc}
 use Rattle.table.specs.Walks.{above, located}
 use Rattle.walks.proofs.locate.Given as goal
 

@@ -1,5 +1,4 @@
 -- `walks::map_of` meets its contract. Assumes nothing.
-use borrow.Author.Rules.{rules}
 use lib.Pow.{pow_mono}
 use native.Mathlib.Omega.{arith}
 use Rattle.walks.proofs.map_of.Goals as goal

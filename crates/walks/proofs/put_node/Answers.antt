@@ -1,5 +1,4 @@
 -- `walks::put_node` meets its contract: a store, and the climb from there. Assumes nothing.
-use borrow.Author.Rules.{rules}
 use native.Mathlib.Omega.{arith}
 use Rattle.walks.proofs.Puts.{node_put, stored_cell, stored_long}
 use Rattle.walks.proofs.put_node.Goals as goal

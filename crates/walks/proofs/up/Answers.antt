@@ -1,11 +1,10 @@
-use mathlib.Core.Path.{◌≡◌, ◌∙◌, ap, refl}
-use Prim.Native.Nat.{◌*◌, ◌+◌, ◌-◌, ◌<◌, ◌^◌, ◌≤◌, ℕ}
+use mathlib.Core.Path.{◌∙◌, ap, refl}
+use Prim.Native.Nat.{◌^◌, ℕ}
 use borrow.Author.Rules.{rules}
-use lib.ListN.{get_or, length}
+use lib.ListN.{get_or}
 use lib.Pow.{pow_mono}
 use native.Mathlib.Omega.{arith}
 use Rattle.table.proofs.Up.{climbed_carried, climbed_end, climbed_turn, sibling_small}
-use Rattle.table.specs.Walks.{climbed}
 use Rattle.walks.proofs.up.Goals as goal
 
 pub loop-h-init : goal.loop-h-init
@@ -33,7 +32,7 @@ loop-h-preserved c = let own = c.loop-h.invariant.5 in
 
 pub returns : goal.returns
 returns c = record {
-      exact = climbed_end _ c.loop-h.h c.loop-h.v _ _ c.loop-h-test.false c.loop-h.invariant.6;
-      long = c.loop-h.invariant.3;
-      cost = omega arith;
-    }
+  exact = climbed_end _ c.loop-h.h c.loop-h.v _ _ c.loop-h-test.false c.loop-h.invariant.6;
+  long = c.loop-h.invariant.3;
+  cost = omega arith;
+}

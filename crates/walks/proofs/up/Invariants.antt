@@ -1,12 +1,8 @@
 -- `walks::up` meets its contract. The loop's invariant: x is the cell of v, and what is still to be climbed from here is what was to be climbed at the start.
 -- The measure is the levels that are left. Assumes nothing.
-use mathlib.Core.Path.{◌≡◌, ◌∙◌, ap, refl}
-use Prim.Native.Nat.{◌*◌, ◌+◌, ◌-◌, ◌<◌, ◌^◌, ◌≤◌, ℕ}
-use borrow.Author.Rules.{rules}
+use mathlib.Core.Path.{◌≡◌}
+use Prim.Native.Nat.{◌*◌, ◌+◌, ◌-◌, ◌<◌, ◌^◌, ◌≤◌}
 use lib.ListN.{get_or, length}
-use lib.Pow.{pow_mono}
-use native.Mathlib.Omega.{arith}
-use Rattle.table.proofs.Up.{climbed_carried, climbed_end, climbed_turn, sibling_small}
 use Rattle.table.specs.Walks.{climbed}
 use Rattle.walks.proofs.up.Given as goal
 

@@ -1,5 +1,4 @@
 -- `walks::wanted` meets its contract. Assumes nothing.
-use borrow.Author.Rules.{rules}
 use borrow.Author.Tests.{le-ltb, lt-ltb}
 use Rattle.walks.proofs.wanted.Goals as goal
 

@@ -1,5 +1,4 @@
 -- `which::tell_block` meets its contract: each way out by a law of Block, and the last by what `tell_slot` ensures. Assumes nothing.
-use borrow.Author.Rules.{rules}
 use native.Mathlib.Omega.{arith}
 use Rattle.table.proofs.Locate.{above_range}
 use Rattle.which.proofs.Block.{at_leaf, block_high, block_large, block_no_size, block_none, tag_some}

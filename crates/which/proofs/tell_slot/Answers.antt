@@ -1,5 +1,4 @@
 -- `which::tell_slot` meets its contract: three ways out, each by a law of Slot. Assumes nothing.
-use borrow.Author.Rules.{rules}
 use native.Mathlib.Omega.{arith}
 use Rattle.laws.proofs.Sizes.{small_pos}
 use Rattle.which.proofs.Slot.{index_fits, slot_idle, slot_live, slot_past}
