@@ -1,6 +1,5 @@
 -- Words and the numbers that they are, computed from the definition: both ends of the range, and words that are no number. Assumes nothing.
-use mathlib.Core.Path.{◌≡◌, refl}
-use mathlib.Core.List.{[], ◌∷◌}
+use Rattle.std.proofs.Common.{◌≡◌, refl, [], ◌∷◌}
 use Rattle.script.specs.declared.number.Number.TheVariants.{Is, Bad}
 use Rattle.script.specs.Decimal.{plain, value_from, number_of}
 

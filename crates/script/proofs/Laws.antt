@@ -1,19 +1,9 @@
 -- Laws of plain decimal: reading a word digit by digit, and that the digits that are printed read back. Assumes nothing.
-use Prim.Native.Nat.{ℕ, zero, suc, ◌+◌, ◌-◌, ◌*◌, ◌/◌, ◌%◌, ◌^◌, ◌≤◌, ◌<◌}
-use native.Mathlib.Nat.{pow-succ'}
-use native.Mathlib.Numerals.{add-one}
-use native.Mathlib.Omega.{arith}
-use mathlib.Core.Path.{◌≡◌, refl, ap, ◌∙◌}
-use mathlib.Core.Bool.{Bool, true, false, cond}
-use mathlib.Core.List.{List, [], ◌∷◌, ◌++◌}
-use mathlib.Core.Logic.{◌⊎◌, inl, inr, ⊎_elim}
-use borrow.Author.Tests.{lt-ltb, le-ltb, ltb-true, ltb-false}
-use lib.Dec.{ltb}
-use lib.ListN.{length, get_or, drop, length-append}
-use lib.Seq.{drop-cons, drop-length}
-use Rattle.io.specs.Digits.{last_digits as digits, hex_digit_ascii}
+use Rattle.std.proofs.Common.{ℕ, zero, suc, ◌+◌, ◌-◌, ◌*◌, ◌/◌, ◌%◌, ◌^◌, ◌≤◌, ◌<◌, ◌≡◌, refl, ap, ◌∙◌, Bool, true, false, cond, List, [], ◌∷◌, ◌++◌, ◌⊎◌, inl, inr, ⊎_elim, ltb, length, get_or, drop, lt-ltb, le-ltb, ltb-true, ltb-false, length-append, drop-cons, add-one, arith}
+use Rattle.std.proofs.Math.Nat.{pow-succ'}
+use Rattle.std.proofs.Math.Seq.{drop-length}
 use Rattle.script.specs.declared.number.Number.TheVariants.{Is, Bad}
-use Rattle.script.specs.Decimal.{is_digit, plain, value_from, value, when_true, number_of, with_digit}
+use Rattle.script.specs.Decimal.{is_digit, plain, value_from, value, when_true, number_of, with_digit, last_digits}
 
 -- ---- tests
 
@@ -132,30 +122,27 @@ value_end v [] b = refl
 value_end v (a ∷ s) b = value_end (10 * v + (a - 48)) s b
 
 -- the digit of a number below ten
-glyph_digit : (d : ℕ) → d < 10 → is_digit (hex_digit_ascii d) ≡ true
-glyph_digit d h = simp (lt-ltb d 10 h, le-ltb (48 + d) 48 (omega arith), lt-ltb (48 + d) 58 (omega arith))
-
-glyph_worth : (d : ℕ) → d < 10 → hex_digit_ascii d - 48 ≡ d
-glyph_worth d h = simp (lt-ltb d 10 h) (omega arith)
+digit_of : (d : ℕ) → d < 10 → is_digit (48 + d) ≡ true
+digit_of d h = simp (le-ltb (48 + d) 48 (omega arith), lt-ltb (48 + d) 58 (omega arith))
 
 -- the digits of a number: all of them digits, and worth the number
-printed_plain : (k n : ℕ) → plain (digits 10 k n) ≡ true
+printed_plain : (k n : ℕ) → plain (last_digits k n) ≡ true
 unfolding plain
 printed_plain zero n = refl
 printed_plain (suc k) n =
-    plain_end (digits 10 k (n / 10)) (hex_digit_ascii (n % 10)) (printed_plain k (n / 10)) (glyph_digit (n % 10) (omega arith))
+    plain_end (last_digits k (n / 10)) (48 + n % 10) (printed_plain k (n / 10)) (digit_of (n % 10) (omega arith))
 
-printed_value : (k n : ℕ) → n < 10 ^ k → value (digits 10 k n) ≡ n
+printed_value : (k n : ℕ) → n < 10 ^ k → value (last_digits k n) ≡ n
 unfolding value_from
 printed_value zero n h = omega arith
 printed_value (suc k) n h =
-    value_end 0 (digits 10 k (n / 10)) (hex_digit_ascii (n % 10)) ∙ omega (arith, printed_value k (n / 10) (omega (arith, h, pow-succ' 10 k)), glyph_worth (n % 10) (omega arith))
+    value_end 0 (last_digits k (n / 10)) (48 + n % 10) ∙ omega (arith, printed_value k (n / 10) (omega (arith, h, pow-succ' 10 k)))
 
-printed_length : (k n : ℕ) → length (digits 10 k n) ≡ k
+printed_length : (k n : ℕ) → length (last_digits k n) ≡ k
 printed_length zero n = refl
-printed_length (suc k) n = length-append (digits 10 k (n / 10)) (hex_digit_ascii (n % 10) ∷ []) ∙ omega (arith, printed_length k (n / 10))
+printed_length (suc k) n = length-append (last_digits k (n / 10)) ((48 + n % 10) ∷ []) ∙ omega (arith, printed_length k (n / 10))
 
 -- enough digits read back as the number
-pub reads_back : (k n : ℕ) → 1 ≤ k → n < 10 ^ k → n < 2 ^ 64 → number_of (digits 10 k n) ≡ Is n
+pub reads_back : (k n : ℕ) → 0 < k → n < 10 ^ k → n < 2 ^ 64 → number_of (last_digits k n) ≡ Is n
 reads_back k n some enough h =
-    is_number (digits 10 k n) n (omega (arith, printed_length k n)) (printed_plain k n) (printed_value k n enough) h
+    is_number (last_digits k n) n (omega (arith, printed_length k n)) (printed_plain k n) (printed_value k n enough) h

@@ -1,5 +1,5 @@
 -- Plain decimal: the value of digits, and the number that a word is. Assumes nothing.
-use Rattle.std.specs.Prelude.{ℕ, ◌+◌, ◌-◌, ◌*◌, ◌^◌, Bool, true, false, cond, List, [], ◌∷◌, ltb, length}
+use Rattle.std.specs.Prelude.{ℕ, zero, suc, ◌+◌, ◌-◌, ◌*◌, ◌/◌, ◌%◌, ◌^◌, Bool, true, false, cond, List, [], ◌∷◌, ◌++◌, ltb, length}
 use Rattle.script.specs.declared.number.Number.{Number}
 use Rattle.script.specs.declared.number.Number.TheVariants.{Is, Bad}
 
@@ -32,3 +32,8 @@ number_of s = when_true (ltb 0 (length s)) (when_true (plain s) (when_true (ltb 
 -- the number whose digits are those of v and then the byte b, or Bad
 abbrev pub with_digit : ℕ → ℕ → Number
 with_digit v b = when_true (is_digit b) (when_true (ltb (10 * v + (b - 48)) (2 ^ 64)) (Is (10 * v + (b - 48))))
+
+-- the last k decimal digits of n, the most significant first
+abbrev pub last_digits : ℕ → ℕ → List ℕ
+last_digits zero n = []
+last_digits (suc k) n = last_digits k (n / 10) ++ ((48 + n % 10) ∷ [])

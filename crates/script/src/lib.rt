@@ -1,9 +1,10 @@
 // What a line of a script for the player is, without input or output: from a line's bytes to its kind and its numbers,
 // and from a number to its digits. docs/PLAYER.md has the lines.
+#![tactic(auto)]
+
 mod number;
 mod words;
 
-use check::same;
 pub use number::{MOST_DIGITS, Number, decimal, number_of};
 pub use words::squeeze;
 use words::{no_word, request_end, skip_blanks, word_end};
@@ -59,42 +60,26 @@ pub fn parse(line: &[u8]) -> Line {
 
 // Which first word it is.
 fn first_word(w: &[u8]) -> Word {
-    if same(w, b"take") {
-        return Word::Take;
+    match w {
+        b"take" => Word::Take,
+        b"give" => Word::Give,
+        b"which" => Word::Which,
+        b"figures" => Word::Figures,
+        _ => first_word_of_rest(w),
     }
-    if same(w, b"give") {
-        return Word::Give;
-    }
-    if same(w, b"which") {
-        return Word::Which;
-    }
-    if same(w, b"figures") {
-        return Word::Figures;
-    }
-    first_word_of_rest(w)
 }
 
 // The same, of the words that a long script has less often.
 fn first_word_of_rest(w: &[u8]) -> Word {
-    if same(w, b"start") {
-        return Word::Start;
+    match w {
+        b"start" => Word::Start,
+        b"checkup" => Word::CheckUp,
+        b"arena" => Word::Arena,
+        b"table" => Word::Table,
+        b"flip" => Word::Flip,
+        b"cost" => Word::Cost,
+        _ => Word::Other,
     }
-    if same(w, b"checkup") {
-        return Word::CheckUp;
-    }
-    if same(w, b"arena") {
-        return Word::Arena;
-    }
-    if same(w, b"table") {
-        return Word::Table;
-    }
-    if same(w, b"flip") {
-        return Word::Flip;
-    }
-    if same(w, b"cost") {
-        return Word::Cost;
-    }
-    Word::Other
 }
 
 // What a line is by its first word and by what stands after it.
@@ -148,13 +133,11 @@ fn numbered(w: Word, n: Number) -> Line {
 fn table(rest: &[u8]) -> Line {
     let from = skip_blanks(rest, 0);
     let to = word_end(rest, from);
-    if same(&rest[from..to], b"short") {
-        return alone(&rest[to..], Line::TableShort);
+    match &rest[from..to] {
+        b"short" => alone(&rest[to..], Line::TableShort),
+        b"whole" => alone(&rest[to..], Line::TableWhole),
+        _ => Line::Bad,
     }
-    if same(&rest[from..to], b"whole") {
-        return alone(&rest[to..], Line::TableWhole);
-    }
-    Line::Bad
 }
 
 // The line `flip CELL BIT`, by what stands after its first word.

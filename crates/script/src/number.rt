@@ -1,7 +1,7 @@
 // Numbers of a script: plain decimal, up to 2^64 - 1.
-ghost use Rattle.std.specs.Prelude.{◌≡◌, take};
-ghost use Rattle.io.specs.Counts.{IsPrefixLen};
-ghost use Rattle.script.specs.Decimal.{number_of, with_digit};
+ghost use Rattle.std.specs.Prelude.{◌≡◌, ◌^◌, ◌<◌, ◌≤◌, length, take};
+ghost use Rattle.script.specs.Counts.{IsPrefixLen};
+ghost use Rattle.script.specs.Decimal.{last_digits, number_of, with_digit};
 
 // The base of plain decimal, and its first and its last digit.
 const TEN: u64 = 10;
@@ -62,5 +62,36 @@ pub fn decimal(n: u64, out: &mut [u8; MOST_DIGITS]) -> usize
     ensures within { IsPrefixLen result out.new }
     ensures reads_back { number_of (take result out.new) ≡ Number.Is n }
 {
-    io::decimal(n, out)
+    let k = digit_count(n);
+    put_digits(n, k, out);
+    k
+}
+
+// How many decimal digits n has.
+fn digit_count(n: u64) -> usize
+    ensures some { 0 < result }
+    ensures most { result ≤ 20 }
+    ensures enough { n < 10 ^ result }
+{
+    let mut k = 1;
+    let mut rest = n / TEN;
+    while 0 < rest {
+        rest /= TEN;
+        k += 1;
+    }
+    k
+}
+
+// Puts the last k decimal digits of n at the start of out.
+fn put_digits(n: u64, k: usize, out: &mut [u8])
+    requires { k ≤ length out.old }
+    ensures { take k out.new ≡ last_digits k n }
+{
+    let mut i = k;
+    let mut rest = n;
+    while 0 < i {
+        i -= 1;
+        out[i] = ZERO + (rest % TEN) as u8;
+        rest /= TEN;
+    }
 }

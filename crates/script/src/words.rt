@@ -1,6 +1,6 @@
 // The words of a line: where its request ends, and where each word starts and ends.
 ghost use Rattle.std.specs.Prelude.{◌+◌, ◌≤◌, ◌<◌, length, true, false, ◌≡◌};
-ghost use Rattle.io.specs.Counts.{IsPrefixLen};
+ghost use Rattle.script.specs.Counts.{IsPrefixLen};
 ghost use Rattle.script.specs.Words.{is_blank, is_kind, Run};
 
 // Words stand apart by these.
