@@ -1,11 +1,11 @@
 // What the player keeps from line to line, beside the table: numbers alone, and nothing of what the requests answered.
 ghost use Rattle.std.specs.Prelude.{◌≤◌};
-ghost use Rattle.io.specs.Counts.{IsPrefixLen};
+ghost use Rattle.script.specs.Counts.{IsPrefixLen};
 
 // What a cell holds before the first start.
 pub const GARBAGE: u64 = 0xA5A5_A5A5_A5A5_A5A5;
 
-#[derive(Drop)]
+#[derive(Clone, Copy)]
 pub struct Run {
     // The arena has 2^m pages.
     pub m: u64,
@@ -49,7 +49,7 @@ impl Run {
 
     // The next line is read, and the one after it starts.
     pub fn next_line(mut self) -> Self {
-        self.lines = std::num::wrapping_add_u64(self.lines, 1);
+        self.lines = self.lines.wrapping_add(1);
         self.length = 0;
         self
     }
