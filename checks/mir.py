@@ -1,22 +1,246 @@
-"""Reads what `rt mir NAME` prints: the code as it is proved and compiled, in nested lists."""
+"""The code as it is proved and compiled, in nested lists, from what the toolchain writes of a crate.
+
+A library that is proved has it in out/rlib/NAME.rlib/toolchain/mir.json: `of_library` reads that. Of a program, and of code that is not proved,
+`rt check --generated` writes each function's code as the prover reads it, in Code/Mir.antt: `of_text` reads those. Both give the same lists
+(`readers_agree` of run.py): a node is a list of its name and its parts, and a list of nodes is `lcons x (lcons y lnil)`.
+"""
+import json
 import re
+import shlex
 import subprocess
+from pathlib import Path
 
-TOKEN = re.compile(r'"[^"]*"|[()]|[^\s()"]+')
+# ---- both readers
 
 
-def parse(text):
-    """The nested lists of an S-expression."""
-    stack = [[]]
-    for token in TOKEN.findall(text):
-        if token == "(":
-            stack.append([])
-        elif token == ")":
-            done = stack.pop()
-            stack[-1].append(done)
-        else:
-            stack[-1].append(token)
-    return stack[0]
+def chain(ones):
+    """A list of nodes."""
+    done = "lnil"
+    for one in reversed(ones):
+        done = ["lcons", one, done]
+    return done
+
+
+def quoted(name):
+    """A name as it stands in a node."""
+    return f'"{name}"'
+
+
+def direct(name, types):
+    """A function that a call names, and the types that it is called at, if any. Which impls it is called with is left out."""
+    return ["direct", ["symbol", name], *([types] if types != "lnil" else [])]
+
+
+def fn_def(name, parameters, locals_, code, types):
+    """A function: its name, and its body, where the number of parameters, the locals, the code and the declared types have the places 3 to 6."""
+    return name, ["fn", name, "-", str(parameters), chain(locals_), code, chain(types)]
+
+
+# ---- a library's mir.json: a node is {"Name": its part, or the list of its parts}, or "Name"; code is one list, each statement before its parts
+
+# the words that the text has otherwise
+WORDS = {"Opd": "rvOpd", "True": "opdTrue", "False": "opdFalse", "Ptr": "tyPtr", "Bool": "tyBool", "Bound": "boundLv"}
+TYPES = {"Ref", "Array", "Param", "Struct", "Named", "Enum", "Vector"}
+# how many statements stand in a statement
+PARTS = {"Seq": 2, "If": 2, "Block": 1, "Loop": 1}
+
+
+def word(name):
+    """A node's name, as the text has it."""
+    return WORDS.get(name) or ("ty" + name if name in TYPES else name[0].lower() + name[1:])
+
+
+def is_node(value):
+    """Whether a value of the file is a node with parts."""
+    return isinstance(value, dict) and len(value) == 1 and next(iter(value))[0].isupper()
+
+
+def of_value(value):
+    """A node of a file, but for code."""
+    if isinstance(value, bool):
+        return str(value).lower()
+    if isinstance(value, int):
+        return str(value)
+    if isinstance(value, str):
+        return word(value) if value and value[0].isupper() and value.isalpha() else quoted(value)
+    if isinstance(value, list):
+        return chain([of_value(one) for one in value])
+    if not is_node(value):
+        if set(value) == {"local", "steps"}:
+            return ["place", str(value["local"]), chain([of_value(one) for one in value["steps"]])]
+        if set(value) == {"name", "lifetimes"}:
+            return ["pair", quoted(value["name"]), chain([of_value(one) for one in value["lifetimes"]])]
+        return ["record", *([key, of_value(one)] for key, one in sorted(value.items()))]
+    (name, part), = value.items()
+    if name in ("Int", "Float"):
+        return [name.lower(), *(str(one) for one in part.values())] if isinstance(part, dict) else ["ty" + name, str(part)]
+    if name == "Fn":
+        return direct(quoted(part[0]), of_value(part[1]["types"]))
+    if name == "Struct":
+        return ["tyStruct", quoted(part[0]), of_value(part[1])]
+    if name == "Lit":
+        return str(part)
+    if name == "Named" and isinstance(part, list):
+        return ["tyNamed", of_value(part[0]), *([of_value(part[1])] if part[1] else [])]
+    if name in ("Aggregate", "Fields", "Variants"):
+        return [word(name), of_value(part)]
+    parts = [of_value(one) for one in (part if isinstance(part, list) else [part])]
+    # a lifetime that is named has its number alone
+    return ["named", *parts] if name == "Named" else [word(name), *parts]
+
+
+def of_code(code):
+    """The code of a function of a file."""
+    ahead = iter(code)
+
+    def one():
+        node = next(ahead)
+        name, part = next(iter(node.items())) if isinstance(node, dict) else (node, [])
+        if name == "Switch":
+            arms = [["arm", chain([str(key) for key in keys]), one()] for keys in part[1]]
+            rest = ["default", one()] if part[2] else "noDefault"
+            for arm in reversed(arms):
+                rest = [*arm, rest]
+            return ["switch", of_value(part[0]), rest]
+        if name in PARTS:
+            return [word(name), *([of_value(part)] if name == "If" else []), *(one() for _ in range(PARTS[name]))]
+        return of_value(node)
+
+    done = one()
+    if next(ahead, None) is not None:
+        raise ValueError("mir.json has code after the end of a function's")
+    return done
+
+
+def of_library(file):
+    """The functions of a library: (name, body)."""
+    for name, it in json.loads(Path(file).read_text()):
+        types = [["type", quoted(one["name"]), of_value(one["shape"])] for one in it["types"]]
+        locals_ = [["local", of_value(one["ty"]), of_value(one["home"])] for one in it["locals"]]
+        yield fn_def(name, it["params"], locals_, of_code(it["body"]), types)
+
+
+# ---- the text of --generated: definitions of antt, `NAME = TERM`, with calls by juxtaposition
+
+TOKEN = re.compile(r"List\.\[\]|[(){},;]|[^\s(){},;]+")
+DEFINITION = re.compile(r"^(\S+) =(.*?)(?=^(?:abbrev|unfoldable|pub|use|module|--)|\Z)", re.M | re.S)
+# where the text has another word than the lists
+TERMS = {"cond": "if", "List.[]": "lnil", "tnil": "lnil", "ttnil": "lnil", "List.◌∷◌": "lcons", "tcons": "lcons", "ttcons": "lcons",
+         "ty_unit": "unit", "opd_unit": "unit", **{f"w{width}": str(width) for width in (8, 16, 32, 64, 128)}}
+
+
+def terms_of(text):
+    """The terms of a text, one after another: a call, a tuple as ["tuple", ..] or a record as ["record", [NAME, TERM], ..]."""
+    tokens = TOKEN.findall(text)
+    at = 0
+
+    def call(ends):
+        nonlocal at
+        parts = []
+        while tokens[at] not in ends:
+            parts.append(atom())
+        return parts[0] if len(parts) == 1 else parts
+
+    def atom():
+        nonlocal at
+        token = tokens[at]
+        at += 1
+        if token == "record" and tokens[at] == "{":
+            at += 1
+            fields = []
+            while tokens[at] != "}":
+                name = tokens[at]
+                at += 2
+                fields.append([name, call(";")])
+                at += 1
+            at += 1
+            return ["record", *fields]
+        if token != "(":
+            return token
+        parts = []
+        is_tuple = False
+        while tokens[at] != ")":
+            parts.append(call((",", ")")))
+            if tokens[at] == ",":
+                is_tuple = True
+                at += 1
+        at += 1
+        return ["tuple", *parts] if is_tuple else parts[0]
+
+    tokens.append("the end")
+    return call(("the end",))
+
+
+def camel(name):
+    """The name of a node, as the lists have it."""
+    return re.sub(r"_(\w)", lambda one: one.group(1).upper(), name)
+
+
+class Text:
+    """A module that has a function's code."""
+
+    def __init__(self, text):
+        self.defined = {name: body for name, body in DEFINITION.findall(text)}
+        uses = re.findall(r"^use (\S+?)(?: as (\S+))?$", text, re.M)
+        self.modules = {alias or module.split(".")[-1]: module for module, alias in uses}
+        self.prefix = "by_name" if "by_name" in self.defined else "function"
+
+    def term(self, name):
+        return self.nodes(terms_of(self.defined[name]))
+
+    def called(self, word):
+        """The function whose name or symbol this is, by the module that the word comes from."""
+        if isinstance(word, str):
+            module = self.modules.get(word.rsplit(".", 1)[0], "").split(".")
+            if module[0] == "Rattle" and module[-1] in ("Symbol", "Key") and word.rsplit(".", 1)[1] in ("name", "symbol"):
+                return quoted("::".join([module[1], *(one for one in module[3:-1] if one != "contracts")]))
+        return None
+
+    def nodes(self, term):
+        """A term as nested lists, with what it names put in."""
+        if isinstance(term, str):
+            if self.called(term):
+                return direct(self.called(term), "lnil")
+            if term in self.defined:
+                return self.term(term)
+            name = term.split(".", 1)[1] if term.startswith(("Syntax.", "Table.")) else term
+            return TERMS.get(name) or camel(name)
+        if term[0] == "record":
+            return ["record", *([name, self.nodes(one)] for name, one in term[1:])]
+        if term[0] == "tuple":
+            return ["pair", *(self.nodes(one) for one in term[1:])]
+        # a call of a call's result does not come up: what is called is a name
+        if term[0] == "Syntax.fn":
+            return direct(self.called(term[1]) or self.nodes(term[1]), self.nodes(term[2])[1])
+        name, *parts = [self.nodes(one) for one in term]
+        if name[:1] == ["direct"]:
+            return direct(name[1][1], parts[0][1])
+        if name == "tyStruct":
+            parts[0] = spelled(parts[0])
+        if name == "tyNamed":
+            parts[0] = ["pair", spelled(parts[0][1]), parts[0][2]]
+            parts = parts if parts[1] != "lnil" else parts[:1]
+        return [name, *parts]
+
+
+def spelled(letters):
+    """A name that is written as a list of bytes."""
+    return quoted(bytes(int(one) for one in items(letters)).decode())
+
+
+def of_text(root):
+    """The functions of a crate: (name, body), from the folder that --generated wrote."""
+    for file in sorted(Path(root).glob("Rattle-*-proofs/**/Code/Mir.antt")):
+        inside = file.relative_to(root).parts
+        crate = inside[0].removeprefix("Rattle-").removesuffix("-proofs")
+        text = Text(file.read_text())
+        function = dict(text.term(text.prefix)[1:])
+        table = items(text.term("table")) if "table" in text.defined else []
+        types = [["type", spelled(one[1]), one[3]] for one in table]
+        yield fn_def("::".join([crate, *inside[1:-2]]), function["params"], items(function["locals"]), function["body"], types)
+
+
+# ---- what stands in the lists
 
 
 def walk(node):
@@ -30,19 +254,12 @@ def walk(node):
 
 
 def items(node):
-    """The elements of a printed list, `lcons x (lcons y lnil)`."""
+    """The elements of a list of nodes."""
     found = []
-    while isinstance(node, list) and len(node) == 3 and node[0] in ("lcons", "tcons"):
+    while isinstance(node, list) and len(node) == 3 and node[0] == "lcons":
         found.append(node[1])
         node = node[2]
     return found
-
-
-def functions(mir):
-    """The functions of a program: (name, body); the body has, after the code, the fields of the structs that its types name."""
-    for node in walk(parse(mir)):
-        if len(node) >= 3 and node[0] == "fn-def":
-            yield node[1].strip('"'), node[2] + node[3:]
 
 
 def kinds(body):
@@ -96,16 +313,15 @@ def changed(body):
 def calls(body):
     """The calls of a function: (name of the callee, arguments, target); the name is None where it is not written in the call."""
     for node in walk(body):
-        if len(node) == 4 and node[0] == "call":
+        if node[:1] == ["call"] and len(node) == 4:
             yield callee(node), items(node[2]), node[3]
+        elif node[:1] in (["callV"], ["foreign"]):
+            # through a pointer, or to code that is not Rattle
+            yield None, [one for part in node[1:] for one in (items(part) or [part])], next((one for one in reversed(node) if one[:1] == ["place"]), ["place", "none", "lnil"])
 
 
 def callee(call):
-    """The name of the function that is called, if the call says it."""
-    return call[1][1][1].strip('"') if call[1][0] == "direct" else None
-
-
-def mir_of(root, crate):
-    """What the toolchain prints of a crate."""
-    run = subprocess.run(["rt", "mir", crate], cwd=root, capture_output=True, text=True, check=True)
-    return "\n".join(line for line in run.stdout.split("\n") if not line.startswith("rt:"))
+    """The name of the function that is called, if the call says it; a step of the machine's own has a name too."""
+    if call[1][0] == "direct":
+        return call[1][1][1].strip('"')
+    return f"the machine's {call[1][1]}" if call[1][0] == "prim" else None
