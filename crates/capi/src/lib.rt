@@ -1,5 +1,6 @@
-// The C interface (include/breatharena.h): each function is a thin one over the library. A table comes as a pointer and the number of its cells.
-// Each returns 0 or the refusal number; on refusal every value handed back is 0. No function asks anything of its caller's numbers or cells.
+// What each function of the C interface (include/breatharena.h) does: a thin one over the library, which `capi_c` exports under its own name.
+// A table comes as a slice. Each returns 0 or the refusal number; on refusal every value handed back is 0. No function asks anything of its
+// caller's numbers or cells.
 #![tactic(auto)]
 
 ghost use Rattle.std.specs.Prelude.{◌≡◌, cond, ltb};
@@ -10,15 +11,13 @@ ghost use Rattle.arena.specs.Promises.{Exact, InOrder, Kept, RefusalAlone, Right
 ghost use Rattle.capi.specs.Said.{said};
 
 // The cells that a table for m needs; 0 where m is refused.
-#[unsafe(no_mangle)]
-pub extern "C" fn ba_table_cells(m: u64) -> u64
+pub fn ba_table_cells(m: u64) -> u64
     ensures { result ≡ cond (ltb m_most m) 0 (need m) }
 {
     arena::table_cells(m) as u64
 }
 
-#[unsafe(no_mangle)]
-pub extern "C" fn ba_start(table: &mut [u64], m: u64) -> u64
+pub fn ba_start(table: &mut [u64], m: u64) -> u64
     ensures in_order { InOrder m ask_start table.old (said result 0 0 0) }
     ensures refusal_changes_nothing { RefusalAlone table.old table.new (said result 0 0 0) }
     ensures stays_inside { Kept m table.old table.new }
@@ -28,8 +27,7 @@ pub extern "C" fn ba_start(table: &mut [u64], m: u64) -> u64
     counted.reply.refusal
 }
 
-#[unsafe(no_mangle)]
-pub extern "C" fn ba_take(table: &mut [u64], m: u64, n: u64, offset: &mut u64) -> u64
+pub fn ba_take(table: &mut [u64], m: u64, n: u64, offset: &mut u64) -> u64
     ensures in_order { InOrder m (ask_take n) table.old (said result offset.new 0 0) }
     ensures refusal_changes_nothing { RefusalAlone table.old table.new (said result offset.new 0 0) }
     ensures stays_inside { Kept m table.old table.new × TakenInside m n (said result offset.new 0 0) }
@@ -41,8 +39,7 @@ pub extern "C" fn ba_take(table: &mut [u64], m: u64, n: u64, offset: &mut u64) -
     reply.refusal
 }
 
-#[unsafe(no_mangle)]
-pub extern "C" fn ba_give_back(table: &mut [u64], m: u64, offset: u64) -> u64
+pub fn ba_give_back(table: &mut [u64], m: u64, offset: u64) -> u64
     ensures in_order { InOrder m (ask_give_back offset) table.old (said result 0 0 0) }
     ensures refusal_changes_nothing { RefusalAlone table.old table.new (said result 0 0 0) }
     ensures stays_inside { Kept m table.old table.new }
@@ -52,14 +49,7 @@ pub extern "C" fn ba_give_back(table: &mut [u64], m: u64, offset: u64) -> u64
     counted.reply.refusal
 }
 
-#[unsafe(no_mangle)]
-pub extern "C" fn ba_which(
-    table: &[u64],
-    m: u64,
-    offset: u64,
-    start: &mut u64,
-    size: &mut u64,
-) -> u64
+pub fn ba_which(table: &[u64], m: u64, offset: u64, start: &mut u64, size: &mut u64) -> u64
     ensures in_order { InOrder m (ask_which offset) table.now (said result start.new size.new 0) }
     ensures refusal_alone { RefusalAlone table.now table.now (said result start.new size.new 0) }
     ensures stays_inside { ToldInside m offset (said result start.new size.new 0) }
@@ -72,14 +62,7 @@ pub extern "C" fn ba_which(
     reply.refusal
 }
 
-#[unsafe(no_mangle)]
-pub extern "C" fn ba_figures(
-    table: &[u64],
-    m: u64,
-    live: &mut u64,
-    held: &mut u64,
-    room: &mut u64,
-) -> u64
+pub fn ba_figures(table: &[u64], m: u64, live: &mut u64, held: &mut u64, room: &mut u64) -> u64
     ensures in_order { InOrder m ask_figures table.now (said result live.new held.new room.new) }
     ensures refusal_alone { RefusalAlone table.now table.now (said result live.new held.new room.new) }
     ensures right { Right m ask_figures table.now table.now (said result live.new held.new room.new) }
@@ -92,8 +75,7 @@ pub extern "C" fn ba_figures(
     reply.refusal
 }
 
-#[unsafe(no_mangle)]
-pub extern "C" fn ba_check_up(table: &[u64], m: u64, sound: &mut u64) -> u64
+pub fn ba_check_up(table: &[u64], m: u64, sound: &mut u64) -> u64
     ensures in_order { InOrder m ask_check_up table.now (said result sound.new 0 0) }
     ensures refusal_alone { RefusalAlone table.now table.now (said result sound.new 0 0) }
     ensures exact { Exact m table.now (said result sound.new 0 0) }
