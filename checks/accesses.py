@@ -1,6 +1,6 @@
 """No function but `cells::get` and `cells::put` reads or writes an element of a slice of u64: so no access to the table goes round the count.
 
-Works on what `rt mir NAME` prints, the code as it is proved and compiled. There an element of a slice is reached by `offset` from the
+Works on the code as it is proved and compiled (`mir.py`). There an element of a slice is reached by `offset` from the
 slice's pointer, its field 0, and then by a `deref`. A part of a slice is made by `offset` too, and is not dereferenced. So that no element is
 reached in another way, a slice of u64 stands nowhere but in a local or a parameter of its own, and is one that came in or a part of it.
 """
@@ -84,15 +84,18 @@ pub fn lends_an_array_at_times(t: &[u64]) -> usize {
 
 // ---- a slice below the top of a type
 
+#[derive(Clone, Copy)]
 pub struct View<'a> {
     pub cells: &'a [u64],
     pub at: usize,
 }
 
+#[derive(Clone, Copy)]
 pub struct Holder<'a> {
     pub view: View<'a>,
 }
 
+#[derive(Clone, Copy)]
 pub struct Bytes<'a> {
     pub bytes: &'a [u8],
     pub at: usize,

@@ -30,7 +30,7 @@ def declares(source, name, suffix):
         forms = [rf"^def {word}\("]
     else:
         forms = [
-            rf"^\s*(unfoldable |abbrev )*pub {word}( \{{[^}}]*\}})? ?:",
+            rf"^\s*((pattern|unfoldable|abbrev) )*pub {word}( \{{[^}}]*\}})? ?:",
             rf"^\s*(pub )?(record|data) {word}[ \n]",
             rf"^  {word} :",
         ]

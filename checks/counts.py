@@ -1,7 +1,7 @@
 """The number of accesses that a request hands out is the one that `cells::get` and `cells::put` counted.
 
 The contracts say that `cells::count` adds one, and they bound the number that a request hands out. They can't say that every function on the way
-counts on this one number, or that it is the number handed out. These rules over what `rt mir NAME` prints say it:
+counts on this one number, or that it is the number handed out. These rules over the code as it is proved and compiled (`mir.py`) say it:
 
 - A function that counts has one `&mut u64`, its last parameter. It does nothing with it but lend it on, as the last argument, to functions that
   count, and lends such a function nothing else. (`cells::count` alone looks behind it. Those that make an access, and no others, call it, once.)
@@ -12,6 +12,7 @@ counts on this one number, or that it is the number handed out. These rules over
   returns a reply with the sum's last value as its second field. The reply is not changed before, and no other function that counts is called.
 - Where nothing was counted, the second field is 0.
 - A function of the C interface makes one request at most, by itself and by all that it calls.
+- Each call names the function that it calls. A function that hands out no count may call through a bound, but lends no count there.
 
 Where the code has another shape than these rules know, they complain.
 """
@@ -25,21 +26,25 @@ PARTS = ("counts", "opens", "adds", "asks", "free")
 
 # an example for the check of this check; the first word of a name is the part that the function plays
 SAMPLE = """
+#[derive(Clone, Copy)]
 pub struct Counted {
     pub reply: u64,
     pub spent: u64,
 }
 
+#[derive(Clone, Copy)]
 pub struct Summed {
     pub last: u64,
     pub spent: u64,
 }
 
+#[derive(Clone, Copy)]
 pub struct Boxed {
     pub counted: Counted,
     pub spent: u64,
 }
 
+#[derive(Drop)]
 pub struct Holder<'a> {
     pub spent: &'a mut u64,
 }
@@ -654,6 +659,33 @@ pub fn free_and_hands_it_on(n: u64) -> Counted {
 pub fn helps(n: u64) -> u64 {
     asks_once(n)
 }
+
+// ---- calls that do not name a function
+
+pub trait Other {
+    fn tell(&self, n: u64) -> u64;
+    fn add(&self, spent: &mut u64);
+}
+
+pub fn free_and_calls_through_a_bound<T: Other>(other: &T, n: u64) -> u64 {
+    other.tell(n)
+}
+
+pub fn free_and_lends_a_count_through_a_bound<T: Other>(other: &T, n: u64) -> u64 {
+    let mut spent: u64 = n;
+    other.add(&mut spent);
+    spent
+}
+
+pub fn opens_and_calls_through_a_bound<T: Other>(other: &T, n: u64) -> Counted {
+    let mut spent: u64 = 0;
+    let x = counts_get(other.tell(n), &mut spent);
+    Counted { reply: x, spent: spent }
+}
+
+pub fn asks_through_a_bound<T: Other>(other: &T, n: u64) -> u64 {
+    other.tell(n)
+}
 """
 # the functions of the example that are wrong, each with what is to be said of it
 FAULTS = {
@@ -723,6 +755,9 @@ FAULTS = {
     "asks_and_hands_it_on": "returns a reply with its count, and neither opens a count nor adds counts up",
     "free_and_hands_it_on": "returns a reply with its count, and neither opens a count nor adds counts up",
     "helps": "counts, and plays no part that is known",
+    "free_and_lends_a_count_through_a_bound": "lends a count to a function that the call does not name",
+    "opens_and_calls_through_a_bound": "calls a function that the call does not name",
+    "asks_through_a_bound": "calls a function that the call does not name",
 }
 
 
@@ -734,6 +769,12 @@ def is_count(kind):
 def counts(body):
     """Whether a function has a `&mut u64` among its parameters."""
     return any(is_count(kinds(body)[int(number)]) for number in parameters(body))
+
+
+def has_count(body, operand):
+    """Whether the type of what is lent has a `&mut u64` in it."""
+    place = place_of(operand)
+    return place is not None and any(is_count(node) for node in walk(kinds(body)[int(place[1])]))
 
 
 def is_reply(kind, replies):
@@ -948,8 +989,11 @@ def faults(bodies, part_of, counter, accesses, replies):
         part = part_of(name)
         called = {one for one, _, _ in calls(body)}
         found = []
-        if None in called:
+        unnamed = [arguments for one, arguments, _ in calls(body) if one is None]
+        if unnamed and part != "free":
             found.append("calls a function that the call does not name")
+        elif any(has_count(body, one) for arguments in unnamed for one in arguments):
+            found.append("lends a count to a function that the call does not name")
         if counter in called and name not in accesses:
             found.append(f"calls {counter}, and makes no access")
         if name in accesses and [one for one, _, _ in calls(body)] != [counter]:

@@ -6,9 +6,90 @@ A library that is proved has it in out/rlib/NAME.rlib/toolchain/mir.json: `of_li
 """
 import json
 import re
-import shlex
-import subprocess
 from pathlib import Path
+
+# an example for the check that both readers give the same; it is proved with no proof file
+SAMPLE = """
+#[derive(Clone, Copy)]
+pub struct View<'a> {
+    pub cells: &'a [u64],
+    pub at: usize,
+}
+
+#[derive(Clone, Copy)]
+pub enum Kind {
+    None,
+    Some(u64),
+    Two(u64, u8),
+}
+
+impl Kind {
+    pub fn number(self) -> u64 {
+        match self {
+            Kind::None => 0,
+            Kind::Some(n) => n,
+            Kind::Two(n, _) => n,
+        }
+    }
+}
+
+pub fn part(t: &[u64]) -> &[u64] {
+    if 3 < t.len() { &t[1..3] } else { t }
+}
+
+pub fn set(t: &mut [u64], n: u64) {
+    if 3 < t.len() && t[2] < 7 {
+        t[3] = n;
+        one(&mut t[1]);
+    }
+}
+
+fn one(x: &mut u64) {
+    *x = 1;
+}
+
+pub fn sum(t: &[u64]) -> u64 {
+    let mut all: u64 = 0;
+    for i in 0..t.len() {
+        if t[i] == 9 {
+            return 7;
+        }
+        if t[i] == 8 {
+            break;
+        }
+        all = all / 2 + t[i] / 2;
+    }
+    all
+}
+
+pub fn viewed(t: &[u64]) -> u64 {
+    let v = View { cells: t, at: 1 };
+    let a: [u64; 4] = [1, 2, 3, 4];
+    let kind = Kind::Some(a[2]);
+    if v.at < v.cells.len() {
+        v.cells[v.at]
+    } else {
+        kind.number()
+    }
+}
+
+pub fn choose(n: u64) -> u32 {
+    match n {
+        0 => 1,
+        1 | 2 => 5,
+        _ => (n % 9) as u32,
+    }
+}
+
+pub fn pick<T: Copy>(a: T, b: T, first: bool) -> T {
+    if first { a } else { b }
+}
+
+pub fn picked(t: &mut [u64]) -> u64 {
+    set(t, 4);
+    pick(1, sum(t), true)
+}
+"""
 
 # ---- both readers
 
@@ -228,16 +309,41 @@ def spelled(letters):
     return quoted(bytes(int(one) for one in items(letters)).decode())
 
 
+def path_of(crate, parts):
+    """A function's name, by the parts of a module's path."""
+    return "::".join([crate, *parts])
+
+
+def code_files(root, inside):
+    """The modules of a crate that have a function's code: (name, file). Functions that call one another, or themselves, have theirs in one folder, +NAME."""
+    crate = inside.name.removeprefix("Rattle-").removesuffix("-proofs")
+    for file in sorted(inside.rglob("Code.antt")):
+        parts = file.relative_to(inside).parts[:-1]
+        if (file.parent / "Code/Mir.antt").is_file():
+            yield path_of(crate, parts), file.parent / "Code/Mir.antt"
+        elif parts and parts[-1].startswith("+"):
+            text = Text(file.read_text())
+            for symbol, function in re.findall(r"\((\S+\.symbol), (\S+-function)\)", text.defined["code"]):
+                alias = re.search(r"(\+\S+)\.(?:by_name|function)\b", text.defined[function]).group(1)
+                yield text.called(symbol).strip('"'), file.parent / "Code" / f"{text.modules[alias].split('.')[-1]}.antt"
+
+
 def of_text(root):
     """The functions of a crate: (name, body), from the folder that --generated wrote."""
-    for file in sorted(Path(root).glob("Rattle-*-proofs/**/Code/Mir.antt")):
-        inside = file.relative_to(root).parts
-        crate = inside[0].removeprefix("Rattle-").removesuffix("-proofs")
-        text = Text(file.read_text())
-        function = dict(text.term(text.prefix)[1:])
-        table = items(text.term("table")) if "table" in text.defined else []
-        types = [["type", spelled(one[1]), one[3]] for one in table]
-        yield fn_def("::".join([crate, *inside[1:-2]]), function["params"], items(function["locals"]), function["body"], types)
+    root = Path(root)
+    for inside in sorted(root.glob("Rattle-*-proofs")):
+        found = dict(code_files(root, inside))
+        contracts = root / inside.name.replace("-proofs", "-specs") / "contracts"
+        crate = inside.name.removeprefix("Rattle-").removesuffix("-proofs")
+        named_there = {path_of(crate, file.relative_to(contracts).parts[:-1]) for file in contracts.rglob("Key.antt")}
+        if named_there != set(found):
+            raise ValueError(f"of these functions no code is found, or no contract: {sorted(named_there ^ set(found))}")
+        for name, file in found.items():
+            text = Text(file.read_text())
+            function = dict(text.term(text.prefix)[1:])
+            table = items(text.term("table")) if "table" in text.defined else []
+            types = [["type", spelled(one[1]), one[3]] for one in table]
+            yield fn_def(name, function["params"], items(function["locals"]), function["body"], types)
 
 
 # ---- what stands in the lists

@@ -1,7 +1,7 @@
 """A request lends the functions that count exactly the cells that its m needs: so what lies beyond them is handed to no working code.
 
 Each function that counts and that a request calls has one slice of u64, asks in its contract that this slice has exactly the cells that its m needs,
-and is given the request's own m. Whoever calls it has to prove what it asks. Works on what `rt mir NAME` prints, and on the contracts in the source.
+and is given the request's own m. Whoever calls it has to prove what it asks. Works on the code as it is proved and compiled (`mir.py`), and on the contracts in the source.
 """
 import re
 
@@ -9,19 +9,22 @@ from accesses import is_table
 from counts import counting_in
 from mir import calls, changed, kinds, local_of, parameters
 
-CLAUSE = "⌜ length (now t) ≡ need m ⌝"
+# the slice as it comes in: `old` of a table that may be changed, `now` of one that is only read
+CLAUSE = r"length t\.(?:old|now) ≡ need m"
 # where the words of the clause come from
-WORDS = {"length": "lib.ListN.length", "need": "Rattle·table.specs.Table.need"}
+WORDS = {"length": "Rattle.std.specs.Prelude.length", "need": "Rattle.table.specs.Table.need"}
 
-# for the check of this check, wrong contracts: what is wrong, the text that is replaced, the text instead
+# for the check of this check, wrong contracts: what is wrong, the text that is replaced (a pattern), the text instead
 EDITS = [
-    ("no clause", CLAUSE, "⌜ m ≤ mMost ⌝"),
-    ("a clause that allows more cells", CLAUSE, "⌜ need m ≤ length (now t) ⌝"),
-    ("a clause under a condition", CLAUSE, "⌜ (m ≡ 0 → length (now t) ≡ need m) ⌝"),
+    ("no clause", CLAUSE, "m ≤ m_most"),
+    ("a clause that allows more cells", CLAUSE, "need m ≤ length t.old"),
+    ("a clause under a condition", f"({CLAUSE})", r"(m ≡ 0 → \1)"),
+    ("a clause that allows another case", f"({CLAUSE})", r"(\1) ⊎ (m ≡ 0)"),
     ("a clause that is promised, not asked", "    requires ", "    ensures "),
     ("a clause in a comment", "    requires ", "    // requires "),
     ("a clause in a long comment", "\n    requires ", "\n    /*\n    requires "),
-    ("a need of another kind", "Table.{", "Other.{"),
+    ("a need of another kind", r"Table\.{", "Other.{"),
+    ("a length of another kind", r"Prelude\.{", "Other.{"),
     ("another m", "m: u64", "k: u64, m: u64"),
 ]
 
@@ -39,8 +42,8 @@ def names(source, function):
 
 def brought(source, word):
     """What a source text brings in under a word."""
-    lists = re.findall(r"^ghost use (\S+)\.\{(.*)\};$", source, re.M)
-    return [f"{module}.{one}" for module, ones in lists for one in ones.split(", ") if one.split(" as ")[-1] == word]
+    lists = re.findall(r"^ghost use (\S+)\.\{([^{}]*)\};$", source, re.M)
+    return [f"{module}.{one}" for module, ones in lists for one in re.split(r",\s*", ones.strip()) if one.split(" as ")[-1] == word]
 
 
 def tables(body):
@@ -50,9 +53,9 @@ def tables(body):
 
 def asks(source, function):
     """Whether a function asks for exactly the needed cells; a text with long comments, which could hide a clause, is not taken."""
-    clauses = re.findall(r"^    requires (?:\w+ )?\{(.*)\}$", head(source, function), re.M)
+    clauses = re.findall(r"^    requires (?:\w+ )?\{ (.*) \}$", head(source, function), re.M)
     meant = all(brought(source, word) == [whole] for word, whole in WORDS.items())
-    return meant and "/*" not in source and any(CLAUSE in map(str.strip, clause.split("∗")) for clause in clauses)
+    return meant and "/*" not in source and any(re.fullmatch(CLAUSE, clause) for clause in clauses)
 
 
 def passes_m(body, own, arguments, theirs):

@@ -12,6 +12,7 @@ ROOT = Path(__file__).resolve().parent.parent
 sys.path[:0] = [str(ROOT / "checks"), str(ROOT / "tests")]
 
 import accesses  # noqa: E402
+import built  # noqa: E402
 import claims  # noqa: E402
 import counts  # noqa: E402
 import mir  # noqa: E402
@@ -52,10 +53,26 @@ def claims_check_catches():
         return wrong
 
 
+def files_of(suffix):
+    """The files of a kind of all crates, but for what the toolchain made."""
+    return [file for part in ("src", "specs", "proofs") for file in sorted(ROOT.glob(f"crates/*/{part}/**/*.{suffix}"))]
+
+
 def layout_kept():
     """Every file of Rattle and antt is in the formatter's layout."""
-    run = subprocess.run(["rt", "fmt", "--check"], cwd=ROOT, capture_output=True, text=True)
-    return [] if run.returncode == 0 else (run.stdout + run.stderr).split("\n")[:8] or ["rt fmt --check failed"]
+    wrong = unlaid([*files_of("rt"), *files_of("antt")])
+    with tempfile.TemporaryDirectory() as folder:
+        for text in ("pub fn one() -> u64 {\n        1\n}\n", "pub fn one() -> u64 { 1 }\n\n\n\npub fn two() -> u64 {\n    2\n}\n"):
+            file = Path(folder) / "lib.rt"
+            file.write_text(text)
+            wrong += [] if unlaid([file]) else [f"not seen: {text}"]
+    return wrong
+
+
+def unlaid(files):
+    """What the formatter says of files that are not in its layout."""
+    run = subprocess.run([built.kit() / "bin/rattle", "fmt", "--check", *files], cwd=ROOT, capture_output=True, text=True)
+    return [] if run.returncode == 0 else (run.stdout + run.stderr).strip().split("\n")[:8]
 
 
 def has_hole(line):
@@ -68,33 +85,57 @@ def no_holes():
     """No file of antt has a hole or an axiom of its own."""
     wrong = [f"not seen: {line}" for line in ("a = ?", "a = ?h", "a = f (?h)", "a = f {?}", "a = {! x !}", "axiom a : A") if not has_hole(line)]
     wrong += [f"seen: {line}" for line in ("a = head? l", "a = b -- why?", "axioms = a") if has_hole(line)]
-    for file in sorted(ROOT.glob("crates/**/*.antt")):
+    for file in files_of("antt"):
         lines = enumerate(file.read_text().split("\n"), 1)
         wrong += [f"{file.relative_to(ROOT)}:{number}: {line.strip()}" for number, line in lines if has_hole(line)]
     return wrong
 
 
-@functools.cache
 def crates():
     """The crates that crates.txt lists, each with those that it is built on."""
-    lines = (line.split("#")[0] for line in (ROOT / "crates.txt").read_text().split("\n"))
-    return {line.split(":")[0].strip(): line.split(":")[1].split() for line in lines if ":" in line}
+    return {name: below for name, (_, below) in built.crates().items()}
 
 
 @functools.cache
-def code(root, crate):
-    """The functions of a crate as they are compiled, each with its body."""
-    return {name: body for name, body in mir.functions(mir.mir_of(root, crate)) if name.startswith(crate + "::")}
+def code(crate):
+    """The functions of a crate as they are proved and compiled, each with its body."""
+    is_static = built.crates()[crate][0]
+    if is_static or (ROOT / "crates" / crate / "src/main.rt").is_file():
+        with tempfile.TemporaryDirectory() as folder:
+            built.generated(crate, folder)
+            found = dict(mir.of_text(folder))
+    else:
+        found = dict(mir.of_library(built.library(crate) / "toolchain/mir.json"))
+    return {name: body for name, body in found.items() if name.startswith(crate + "::")}
 
 
 def code_of(sample):
-    """The functions of an example, each with its body."""
+    """The functions of an example, which need not be proved, each with its body."""
     with tempfile.TemporaryDirectory() as folder:
-        source = Path(folder) / "crates/sample/src/lib.rt"
-        source.parent.mkdir(parents=True)
-        (Path(folder) / "crates.txt").write_text("sample:\n")
-        source.write_text(sample)
-        return code(folder, "sample")
+        built.generated_apart(example(folder, sample), Path(folder) / "generated")
+        return dict(mir.of_text(Path(folder) / "generated"))
+
+
+def example(folder, sample):
+    """Makes a crate of an example, in a repository of its own."""
+    source = Path(folder) / "crates/sample/src/lib.rt"
+    source.parent.mkdir(parents=True)
+    (Path(folder) / "crates.txt").write_text("sample:\n")
+    source.write_text(sample)
+    return source.parent.parent
+
+
+def readers_agree():
+    """The code of an example is the same in the library that is compiled and in what the prover reads."""
+    with tempfile.TemporaryDirectory() as folder:
+        crate = example(folder, mir.SAMPLE)
+        built.build(["rt", "lib"], crate)
+        built.generated_apart(crate, Path(folder) / "generated")
+        compiled = dict(mir.of_library(crate / "out/rlib/sample.rlib/toolchain/mir.json"))
+        proved = dict(mir.of_text(Path(folder) / "generated"))
+    wrong = [f"in one alone: {name}" for name in sorted(set(compiled) ^ set(proved))]
+    wrong += [f"not the same: {name}" for name in sorted(set(compiled) & set(proved)) if compiled[name] != proved[name]]
+    return wrong + ([f"{len(compiled)} functions were read"] if len(compiled) != mir.SAMPLE.count("fn ") else [])
 
 
 # The functions that make an access to the table each; `cells::count` counts it.
@@ -115,7 +156,7 @@ HOST_FUNCTIONS = {"breatharena::play_input", "breatharena::play::fill", "breatha
 
 def all_code():
     """The functions of all crates, each with its body."""
-    return {name: body for crate in crates() for name, body in code(ROOT, crate).items()}
+    return {name: body for crate in crates() for name, body in code(crate).items()}
 
 
 def source_of(name):
@@ -155,7 +196,7 @@ def access_check_catches():
 def part_of(name):
     """The part that a function plays in counting accesses; serve_both hands out no count (docs/CLAIMS.md), the player is no part of the library."""
     crate = name.split("::")[0]
-    parts = {"arena": "opens", "sequence": "adds", "sequence::serve_both": "free", "capi": "asks", "breatharena": "free"}
+    parts = {"arena": "opens", "sequence": "adds", "sequence::serve_both": "free", "capi": "asks", "capi_c": "asks", "breatharena": "free"}
     parts |= dict.fromkeys(crates()["arena"], "counts")
     return parts.get(name) or parts.get(crate, crate)
 
@@ -178,7 +219,7 @@ def only_needed_lent():
     bodies = all_code()
     wrong = needed.faults(bodies, part_of, source_of)
     for what, old, new in needed.EDITS:
-        said = needed.faults(bodies, part_of, lambda name: source_of(name).replace(old, new) if part_of(name) == "counts" else source_of(name))
+        said = needed.faults(bodies, part_of, lambda name: re.sub(old, new, source_of(name)) if part_of(name) == "counts" else source_of(name))
         if len(said) != 6:
             wrong.append(f"not seen in all six requests: {what}")
     return wrong
@@ -268,13 +309,16 @@ def readme_example_holds():
     return wrong
 
 
-CHECKS = [claims_hold, claims_check_catches, layout_kept, no_holes, accesses_counted, access_check_catches, counts_kept, count_check_catches, only_needed_lent, model_tested, tests_catch, c_example_runs, c_interface_agrees, player_agrees, worked_run_printed, readme_example_holds]
+CHECKS = [claims_hold, claims_check_catches, layout_kept, no_holes, readers_agree, accesses_counted, access_check_catches, counts_kept, count_check_catches, only_needed_lent, model_tested, tests_catch, c_example_runs, c_interface_agrees, player_agrees, worked_run_printed, readme_example_holds]
 
 
 def main():
     failed = 0
     for check in CHECKS:
-        wrong = check()
+        try:
+            wrong = check()
+        except built.NotBuilt as error:
+            wrong = str(error).split("\n")
         print(f"{'FAILED' if wrong else 'ok'}: {check.__doc__.splitlines()[0]}")
         for line in wrong:
             print(f"    {line}")
