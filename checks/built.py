@@ -102,11 +102,18 @@ def tell(command, folder):
     return run.returncode, "\n".join(run.stdout.strip().split("\n")[-LOG_LINES:])
 
 
+FAILED = {}
+
+
 def build(command, folder):
-    """Runs a command that has to build something."""
-    status, said = tell(command, folder)
-    if status:
-        raise NotBuilt(f"{' '.join(map(str, command[:2]))} in {folder} ended with {status}\n{said}")
+    """Runs a command that has to build something; one that failed is not run again."""
+    words = (*map(str, command), str(folder))
+    if words not in FAILED:
+        status, said = tell(command, folder)
+        if not status:
+            return
+        FAILED[words] = f"{' '.join(words[:2])} in {folder} ended with {status}\n{said}"
+    raise NotBuilt(FAILED[words])
 
 
 def is_of(file, names):
