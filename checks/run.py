@@ -5,6 +5,8 @@ import re
 import subprocess
 import sys
 import tempfile
+import threading
+from concurrent.futures import ThreadPoolExecutor
 from pathlib import Path
 
 sys.dont_write_bytecode = True
@@ -18,6 +20,10 @@ import counts  # noqa: E402
 import mir  # noqa: E402
 import needed  # noqa: E402
 import scripts  # noqa: E402
+
+
+# what the commands of the check that a thread makes said last
+NOTES = threading.local()
 
 
 def claims_hold():
@@ -225,13 +231,42 @@ def only_needed_lent():
     return wrong
 
 
+def interface(source):
+    """The public functions of a source text: the parameters and the contract of each, and its body."""
+    found = re.findall(r'^pub (?:extern "C" )?fn (\w+)(.*?)^\{(.*?)^\}', source, re.M | re.S)
+    # a long list of parameters stands on lines of its own, with a comma at its end
+    return {name: (" ".join(head.split()).replace("( ", "(").replace(", )", ")"), " ".join(body.split())) for name, head, body in found}
+
+
+def export_faults(library, exports):
+    """Where what is exported for C differs from the library's functions, by the text of both."""
+    own, theirs = interface(library), interface(exports)
+    wrong = [f"in one alone: {name}" for name in sorted(set(own) ^ set(theirs))]
+    for name in sorted(set(own) & set(theirs)):
+        words = ", ".join(re.findall(r"(\w+): ", own[name][0].split(")")[0]))
+        wrong += [] if theirs[name] == (own[name][0], f"capi::{name}({words})") else [f"another contract or body: {name}"]
+    marked = exports.count('#[unsafe(no_mangle)]\npub extern "C" fn ')
+    return wrong + ([] if marked == len(theirs) == exports.count("fn ba_") else ["not every function is exported"])
+
+
+def exports_repeat():
+    """Each function of the library of the C interface is exported under its name, with the same parameters and clauses, and only calls it."""
+    library, exports = ((ROOT / f"crates/{name}/src/lib.rt").read_text() for name in ("capi", "capi_c"))
+    wrong = export_faults(library, exports)
+    for old, new in (("ensures in_order {", "ensures in_order { true × "), ("start, size)", "size, start)"), ("#[unsafe(no_mangle)]", "#[inline]"), ("m: u64, n: u64", "n: u64, m: u64"),
+                     ("fn ba_take", "fn ba_taken"), ("    ensures right", "    // ensures right")):
+        if old not in exports or not export_faults(library, exports.replace(old, new, 1)):
+            wrong.append(f"not seen: {new}")
+    return wrong
+
+
 def says(command, **words):
     """Runs a command: its last lines where it fails, nothing where it does not."""
     run = subprocess.run(command, cwd=ROOT, capture_output=True, text=True, **words)
     text = (run.stdout + run.stderr).strip().split("\n")
     if run.returncode:
         return [f"{' '.join(map(str, command[:3]))} ended with {run.returncode}"] + text[-6:]
-    print("    " + text[-1])
+    NOTES.lines.append(text[-1])
     return []
 
 
@@ -309,22 +344,33 @@ def readme_example_holds():
     return wrong
 
 
-CHECKS = [claims_hold, claims_check_catches, layout_kept, no_holes, readers_agree, accesses_counted, access_check_catches, counts_kept, count_check_catches, only_needed_lent, model_tested, tests_catch, c_example_runs, c_interface_agrees, player_agrees, worked_run_printed, readme_example_holds]
+# two lanes, side by side: the checks over the texts and the code, with the tests of the tests; the tests of what is built
+LANES = [
+    [claims_hold, claims_check_catches, layout_kept, no_holes, readers_agree, accesses_counted, access_check_catches, counts_kept, count_check_catches,
+     only_needed_lent, exports_repeat, model_tested, tests_catch],
+    [c_example_runs, c_interface_agrees, player_agrees, worked_run_printed, readme_example_holds],
+]
+
+
+def passes(check):
+    """Makes a check and tells what it said; whether it passed."""
+    NOTES.lines = []
+    try:
+        wrong = check()
+    except built.NotBuilt as error:
+        wrong = str(error).split("\n")
+    except Exception as error:  # a check that can't be made has failed, and the others are still made
+        wrong = [f"{type(error).__name__}: {error}"]
+    said = [f"    {line}" for line in NOTES.lines if line]
+    print("\n".join([*said, f"{'FAILED' if wrong else 'ok'}: {check.__doc__.splitlines()[0]}", *(f"    {line}" for line in wrong)]), flush=True)
+    return not wrong
 
 
 def main():
-    failed = 0
-    for check in CHECKS:
-        try:
-            wrong = check()
-        except built.NotBuilt as error:
-            wrong = str(error).split("\n")
-        print(f"{'FAILED' if wrong else 'ok'}: {check.__doc__.splitlines()[0]}")
-        for line in wrong:
-            print(f"    {line}")
-        failed += bool(wrong)
-    print(f"{len(CHECKS) - failed} passed, {failed} failed")
-    return 1 if failed else 0
+    with ThreadPoolExecutor(len(LANES)) as lanes:
+        passed = [one for lane in lanes.map(lambda lane: [passes(check) for check in lane], LANES) for one in lane]
+    print(f"{sum(passed)} passed, {len(passed) - sum(passed)} failed")
+    return 0 if all(passed) else 1
 
 
 if __name__ == "__main__":
