@@ -12,7 +12,7 @@ counts on this one number, or that it is the number handed out. These rules over
   returns a reply with the sum's last value as its second field. The reply is not changed before, and no other function that counts is called.
 - Where nothing was counted, the second field is 0.
 - A function of the C interface makes one request at most, by itself and by all that it calls.
-- Each call names the function that it calls. A function that hands out no count may call through a bound, but lends no count there.
+- Each call names the function that it calls. The host alone, which is no part of the library, may call through a bound, and lends no count there.
 
 Where the code has another shape than these rules know, they complain.
 """
@@ -21,8 +21,8 @@ from dataclasses import dataclass, replace
 from mir import addressed, assigns, callee, calls, items, kinds, local_of, parameters, place_of, places, walk
 
 NONE = ["int", "64", "0"]
-# the parts of a function: a function that is free makes requests and hands out no count
-PARTS = ("counts", "opens", "adds", "asks", "free")
+# the parts of a function: a function that is free makes requests and hands out no count, and so does the host that lends the table
+PARTS = ("counts", "opens", "adds", "asks", "free", "host")
 
 # an example for the check of this check; the first word of a name is the part that the function plays
 SAMPLE = """
@@ -671,7 +671,15 @@ pub fn free_and_calls_through_a_bound<T: Other>(other: &T, n: u64) -> u64 {
     other.tell(n)
 }
 
-pub fn free_and_lends_a_count_through_a_bound<T: Other>(other: &T, n: u64) -> u64 {
+pub fn host_that_calls_through_a_bound<T: Other>(other: &T, n: u64) -> u64 {
+    other.tell(n)
+}
+
+pub fn host_that_hands_it_on(n: u64) -> Counted {
+    opens_rightly(n)
+}
+
+pub fn host_that_lends_a_count_through_a_bound<T: Other>(other: &T, n: u64) -> u64 {
     let mut spent: u64 = n;
     other.add(&mut spent);
     spent
@@ -755,7 +763,9 @@ FAULTS = {
     "asks_and_hands_it_on": "returns a reply with its count, and neither opens a count nor adds counts up",
     "free_and_hands_it_on": "returns a reply with its count, and neither opens a count nor adds counts up",
     "helps": "counts, and plays no part that is known",
-    "free_and_lends_a_count_through_a_bound": "lends a count to a function that the call does not name",
+    "free_and_calls_through_a_bound": "calls a function that the call does not name",
+    "host_that_hands_it_on": "returns a reply with its count, and neither opens a count nor adds counts up",
+    "host_that_lends_a_count_through_a_bound": "lends a count to a function that the call does not name",
     "opens_and_calls_through_a_bound": "calls a function that the call does not name",
     "asks_through_a_bound": "calls a function that the call does not name",
 }
@@ -990,7 +1000,7 @@ def faults(bodies, part_of, counter, accesses, replies):
         called = {one for one, _, _ in calls(body)}
         found = []
         unnamed = [arguments for one, arguments, _ in calls(body) if one is None]
-        if unnamed and part != "free":
+        if unnamed and part != "host":
             found.append("calls a function that the call does not name")
         elif any(has_count(body, one) for arguments in unnamed for one in arguments):
             found.append("lends a count to a function that the call does not name")

@@ -202,7 +202,7 @@ def access_check_catches():
 def part_of(name):
     """The part that a function plays in counting accesses; serve_both hands out no count (docs/CLAIMS.md), the player is no part of the library."""
     crate = name.split("::")[0]
-    parts = {"arena": "opens", "sequence": "adds", "sequence::serve_both": "free", "capi": "asks", "capi_c": "asks", "breatharena": "free"}
+    parts = {"arena": "opens", "sequence": "adds", "sequence::serve_both": "free", "capi": "asks", "capi_c": "asks", "breatharena": "host"}
     parts |= dict.fromkeys(crates()["arena"], "counts")
     return parts.get(name) or parts.get(crate, crate)
 
