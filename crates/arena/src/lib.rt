@@ -17,7 +17,7 @@ use terms::{M_MOST, Reply, arena_bytes, grant, refuse};
 use which::tell_block;
 
 // A reply, and the accesses to the table that it took.
-#[derive(Drop)]
+#[derive(Clone, Copy)]
 pub struct Counted {
     pub reply: Reply,
     pub spent: u64,

@@ -4,7 +4,7 @@ use crate::state::Run;
 use terms::Reply;
 
 // What the answer of a request that is not refused looks like.
-#[derive(Drop)]
+#[derive(Clone, Copy)]
 pub enum Form {
     // Start, give back: the word `done`.
     Done,

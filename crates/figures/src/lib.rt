@@ -14,7 +14,7 @@ use cells::{WHOLE_TAG, count_open, get, room_of, tag_of};
 use terms::{PAGE_BYTES, Reply, SIZE_COUNT, grant, page_count, run_bytes, slot_count, small_size};
 
 // Bytes live, and pages held.
-#[derive(Drop)]
+#[derive(Clone, Copy)]
 pub struct Sums {
     pub live: u64,
     pub held: u64,

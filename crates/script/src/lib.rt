@@ -10,7 +10,7 @@ pub use words::squeeze;
 use words::{no_word, request_end, skip_blanks, word_end};
 
 // A line of a script.
-#[derive(Drop)]
+#[derive(Clone, Copy)]
 pub enum Line {
     // No request: nothing but blanks, or a comment.
     Blank,
@@ -31,7 +31,7 @@ pub enum Line {
 }
 
 // The first word of a request.
-#[derive(Drop)]
+#[derive(Clone, Copy)]
 enum Word {
     Arena,
     Table,

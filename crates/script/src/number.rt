@@ -14,7 +14,7 @@ const NINE: u8 = b'9';
 pub const MOST_DIGITS: usize = 20;
 
 // What a word is as a number.
-#[derive(Drop)]
+#[derive(Clone, Copy)]
 pub enum Number {
     Is(u64),
     // No digit at all, a byte that is no digit, or 2^64 and more.

@@ -99,7 +99,7 @@ fn serve_one(t: &mut [u64], m: u64, kind: u64, argument: u64) -> Counted
 }
 
 // Whether the requests were served, and the accesses to the table.
-#[derive(Drop)]
+#[derive(Clone, Copy)]
 pub struct Served {
     pub served: bool,
     pub spent: u64,

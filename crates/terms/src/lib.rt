@@ -23,7 +23,7 @@ const SMALL_SIZES: [u64; 10] = [16, 32, 48, 64, 96, 128, 192, 256, 384, 512];
 // ---- replies (sections 3 and 4)
 
 // A refusal number, or 0, and up to three values; beside a refusal number they are 0.
-#[derive(Drop)]
+#[derive(Clone, Copy)]
 pub struct Reply {
     pub refusal: u64,
     pub first: u64,

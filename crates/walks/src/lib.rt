@@ -48,7 +48,7 @@ pub fn down(t: &[u64], levels: u64, what: u64, spent: &mut u64) -> usize
 }
 
 // A node's height and its tag; a height above m stands for no node.
-#[derive(Drop)]
+#[derive(Clone, Copy)]
 pub struct Tagged {
     pub height: u64,
     pub tag: u64,
