@@ -6,7 +6,8 @@
     checks/built.py player     the same of the player
 
 `rt ci` leaves its libraries in the crates' out/ with no stamp, so that `rt lib` would prove them all once more. Where they are noted, a crate above them
-is checked and compiled over them, with the words that `rt ci` itself gives to `rattle`. Elsewhere `rt` builds what is missing.
+is checked and compiled over them, with the words that `rt ci` itself gives to `rattle`. Elsewhere, as where earlier checks left libraries of their own,
+`rt` builds what is missing.
 """
 import functools
 import hashlib
@@ -180,9 +181,12 @@ def written(told):
 
 
 def note():
-    """Says that `rt ci` has passed on the files as they stand."""
+    """Says that `rt ci` has passed on the files as they stand. Where a library has a stamp, an earlier check left it and `rt ci` put it back: nothing is said."""
     NOTE.parent.mkdir(exist_ok=True)
-    NOTE.write_text(sources(crates()) + made())
+    if any((rlib(name).parent / "stamp").exists() for name in crates()):
+        NOTE.unlink(missing_ok=True)
+    else:
+        NOTE.write_text(sources(crates()) + made())
     program = ROOT / "crates/breatharena/out/breatharena"
     if program.is_file():
         stamped(program, [*below("breatharena"), "breatharena"])
