@@ -1,13 +1,13 @@
 #!/usr/bin/env python3
 """What the toolchain makes of the crates: the archive for C, the player, the code of each function.
 
-    checks/built.py note       after `rt ci` has passed: says that what it left in the crates' out/ is of the files as they stand
+    checks/built.py note       after `rt ci` has passed where no library stood in the crates' out/: says that what it left there is of the files as they stand
     checks/built.py archive    builds the archive where it is not of the files as they stand, and prints its path
     checks/built.py player     the same of the player
 
 `rt ci` leaves its libraries in the crates' out/ with no stamp, so that `rt lib` would prove them all once more. Where they are noted, a crate above them
-is checked and compiled over them, with the words that `rt ci` itself gives to `rattle`. Elsewhere, as where earlier checks left libraries of their own,
-`rt` builds what is missing.
+is checked and compiled over them, with the words that `rt ci` itself gives to `rattle`. Elsewhere `rt` builds what is missing, as where
+libraries stood there before: `rt ci` puts those back over what it proved.
 """
 import functools
 import hashlib
@@ -181,12 +181,9 @@ def written(told):
 
 
 def note():
-    """Says that `rt ci` has passed on the files as they stand. Where a library has a stamp, an earlier check left it and `rt ci` put it back: nothing is said."""
+    """Says that `rt ci` has passed on the files as they stand, and left what it proved: only where no library stood in the crates' out/ before it."""
     NOTE.parent.mkdir(exist_ok=True)
-    if any((rlib(name).parent / "stamp").exists() for name in crates()):
-        NOTE.unlink(missing_ok=True)
-    else:
-        NOTE.write_text(sources(crates()) + made())
+    NOTE.write_text(sources(crates()) + made())
     program = ROOT / "crates/breatharena/out/breatharena"
     if program.is_file():
         stamped(program, [*below("breatharena"), "breatharena"])

@@ -427,7 +427,5 @@ def calls(body):
 
 
 def callee(call):
-    """The name of the function that is called, if the call says it; a step of the machine's own has a name too."""
-    if call[1][0] == "direct":
-        return call[1][1][1].strip('"')
-    return f"the machine's {call[1][1]}" if call[1][0] == "prim" else None
+    """The name of the function that is called, if the call says it."""
+    return call[1][1][1].strip('"') if call[1][0] == "direct" else None

@@ -112,7 +112,12 @@ def code(crate):
             found = dict(mir.of_text(folder))
     else:
         found = dict(mir.of_library(built.library(crate) / "toolchain/mir.json"))
-    return {name: body for name, body in found.items() if name.startswith(crate + "::")}
+    own = {name: body for name, body in found.items() if name.startswith(crate + "::")}
+    written = {name for file in files_of("rt") if file.parts[len(ROOT.parts) + 1] == crate for name in re.findall(r'^ *(?:pub )?(?:extern "C" )?fn (\w+)', file.read_text(), re.M)}
+    unread = sorted(written - {name.split("::")[-1] for name in own})
+    if unread:
+        raise built.NotBuilt(f"of {crate} no code was read of {', '.join(unread)}")
+    return own
 
 
 def code_of(sample):
@@ -242,6 +247,8 @@ def export_faults(library, exports):
     """Where what is exported for C differs from the library's functions, by the text of both."""
     own, theirs = interface(library), interface(exports)
     wrong = [f"in one alone: {name}" for name in sorted(set(own) ^ set(theirs))]
+    meant, brought = (set(re.findall(r"^ghost use .*$", text, re.M)) for text in (library, exports))
+    wrong += [f"other words of clauses: {line}" for line in sorted(meant ^ brought)]
     for name in sorted(set(own) & set(theirs)):
         words = ", ".join(re.findall(r"(\w+): ", own[name][0].split(")")[0]))
         wrong += [] if theirs[name] == (own[name][0], f"capi::{name}({words})") else [f"another contract or body: {name}"]
@@ -254,7 +261,7 @@ def exports_repeat():
     library, exports = ((ROOT / f"crates/{name}/src/lib.rt").read_text() for name in ("capi", "capi_c"))
     wrong = export_faults(library, exports)
     for old, new in (("ensures in_order {", "ensures in_order { true × "), ("start, size)", "size, start)"), ("#[unsafe(no_mangle)]", "#[inline]"), ("m: u64, n: u64", "n: u64, m: u64"),
-                     ("fn ba_take", "fn ba_taken"), ("    ensures right", "    // ensures right")):
+                     ("fn ba_take", "fn ba_taken"), ("    ensures right", "    // ensures right"), ("Table.{need}", "Other.{need}")):
         if old not in exports or not export_faults(library, exports.replace(old, new, 1)):
             wrong.append(f"not seen: {new}")
     return wrong
