@@ -665,6 +665,7 @@ pub fn helps(n: u64) -> u64 {
 pub trait Other {
     fn tell(&self, n: u64) -> u64;
     fn add(&self, spent: &mut u64);
+    fn hold(&self, holder: Holder<'_>);
 }
 
 pub fn free_and_calls_through_a_bound<T: Other>(other: &T, n: u64) -> u64 {
@@ -683,6 +684,10 @@ pub fn host_that_lends_a_count_through_a_bound<T: Other>(other: &T, n: u64) -> u
     let mut spent: u64 = n;
     other.add(&mut spent);
     spent
+}
+
+pub fn host_that_lends_a_struct_with_a_count<T: Other>(other: &T, holder: Holder<'_>) {
+    other.hold(holder);
 }
 
 pub fn opens_and_calls_through_a_bound<T: Other>(other: &T, n: u64) -> Counted {
@@ -766,6 +771,7 @@ FAULTS = {
     "free_and_calls_through_a_bound": "calls a function that the call does not name",
     "host_that_hands_it_on": "returns a reply with its count, and neither opens a count nor adds counts up",
     "host_that_lends_a_count_through_a_bound": "lends a count to a function that the call does not name",
+    "host_that_lends_a_struct_with_a_count": "lends a count to a function that the call does not name",
     "opens_and_calls_through_a_bound": "calls a function that the call does not name",
     "asks_through_a_bound": "calls a function that the call does not name",
 }
@@ -782,9 +788,17 @@ def counts(body):
 
 
 def has_count(body, operand):
-    """Whether the type of what is lent has a `&mut u64` in it."""
+    """Whether the type of what is lent has a `&mut u64` in it, also behind the names of types."""
     place = place_of(operand)
-    return place is not None and any(is_count(node) for node in walk(kinds(body)[int(place[1])]))
+    shapes = {one[1]: one[2] for one in items(body[6])}
+    ahead = [kinds(body)[int(place[1])]] if place is not None else []
+    while ahead:
+        for node in walk(ahead.pop()):
+            if is_count(node):
+                return True
+            if node[:1] == ["tyNamed"]:
+                ahead += [shapes.pop(node[1][1])] if node[1][1] in shapes else []
+    return False
 
 
 def is_reply(kind, replies):

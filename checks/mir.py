@@ -1,8 +1,8 @@
 """The code as it is proved and compiled, in nested lists, from what the toolchain writes of a crate.
 
 A library that is proved has it in out/rlib/NAME.rlib/toolchain/mir.json: `of_library` reads that. Of a program, and of code that is not proved,
-`rt check --generated` writes each function's code as the prover reads it, in Code/Mir.antt: `of_text` reads those. Both give the same lists
-(`readers_agree` of run.py): a node is a list of its name and its parts, and a list of nodes is `lcons x (lcons y lnil)`.
+`rt check --generated` writes each function's code as the prover reads it, in Code/Mir.antt: `of_text` reads those. Both give lists of one form
+(`readers_agree` of run.py lays them side by side on an example): a node is a list of its name and its parts, and a list of nodes is `lcons x (lcons y lnil)`.
 """
 import json
 import re
@@ -71,6 +71,16 @@ pub fn viewed(t: &[u64]) -> u64 {
     } else {
         kind.number()
     }
+}
+
+const SIZES: [u64; 3] = [16, 32, 4096];
+
+pub fn size(i: u64) -> u64 {
+    if i < 3 { SIZES[i as usize] } else { 1 }
+}
+
+pub fn bits(a: u64, b: u64) -> u64 {
+    if !(a < b) { (a | b) & !(a ^ b) } else { 1 << 40 | a / 4096 }
 }
 
 pub fn choose(n: u64) -> u32 {
@@ -207,7 +217,7 @@ TOKEN = re.compile(r"List\.\[\]|[(){},;]|[^\s(){},;]+")
 DEFINITION = re.compile(r"^(\S+) =(.*?)(?=^(?:abbrev|unfoldable|pub|use|module|--)|\Z)", re.M | re.S)
 # where the text has another word than the lists
 TERMS = {"cond": "if", "List.[]": "lnil", "tnil": "lnil", "ttnil": "lnil", "List.◌∷◌": "lcons", "tcons": "lcons", "ttcons": "lcons",
-         "ty_unit": "unit", "opd_unit": "unit", **{f"w{width}": str(width) for width in (8, 16, 32, 64, 128)}}
+         "ty_unit": "unit", "opd_unit": "unit", "int_big": "int", "bit_and": "and", "bit_or": "or", "bit_xor": "xor", "bit_not": "not", **{f"w{width}": str(width) for width in (8, 16, 32, 64, 128)}}
 
 
 def terms_of(text):
@@ -296,6 +306,8 @@ class Text:
         name, *parts = [self.nodes(one) for one in term]
         if name[:1] == ["direct"]:
             return direct(name[1][1], parts[0][1])
+        if name == "cInts":
+            return ["ints", ["record", ["values", parts[1]], ["width", parts[0]]]]
         if name == "tyStruct":
             parts[0] = spelled(parts[0])
         if name == "tyNamed":
