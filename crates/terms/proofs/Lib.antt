@@ -1,3 +1,3 @@
 -- What the proofs of the terms share.
-pub mod Sizes
+pub mod Searched
 pub mod Offsets

@@ -1,2 +1,2 @@
--- Document 01's words as code: what a reply says.
-pub mod Reply
+-- Document 01's words as code: what is answered.
+pub mod Answers

@@ -1,0 +1,7 @@
+-- `terms::Arena::k_for` meets its contract. The loop's invariant: each power before k is too small. Assumes nothing.
+use Rattle.std.proofs.Common.{ℕ, ◌*◌, ◌<◌, ◌^◌}
+use Rattle.meaning.specs.Blocks.{page_bytes}
+use Rattle.terms.proofs.arenas.Arena.k_for.Given as goal
+
+abbrev pub invariant-loop-k : goal.invariant-loop-k
+invariant-loop-k l = (j : ℕ) → j < l.k → page_bytes * 2 ^ j < l.n

@@ -1,9 +1,0 @@
--- `terms::small_size` meets its contract: antt computes one test of the whole table. Assumes nothing.
-use Rattle.meaning.specs.Blocks.{small}
-use Rattle.meaning.specs.Search.{least, lowest}
-use Rattle.terms.proofs.Sizes.{table_of_sizes}
-use Rattle.terms.proofs.small_size.Goals as goal
-
-pub returns : goal.returns
-unfolding small least lowest
-returns c = search table_of_sizes
