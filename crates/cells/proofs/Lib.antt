@@ -1,2 +1,3 @@
 -- The laws of cells.
 pub mod Cell
+pub mod FirstOne

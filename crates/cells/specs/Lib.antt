@@ -1,2 +1,3 @@
--- How a cell of the table is packed.
+-- How a cell of the table is packed, and what its tag says.
 pub mod Cell
+pub mod Tags

@@ -1,12 +1,17 @@
-// The cells of the table (docs/TABLE.md). The one crate that indexes the table, and the one that knows how a cell is packed.
+// The cells of the table (docs/TABLE.md). The one crate that reaches a cell, and the one that knows how a cell is packed.
 // "Section" is one of document 01.
 #![tactic(auto)]
 
-ghost use Rattle.std.specs.Prelude.{◌≡◌, cond, false, true, ◌+◌, ◌-◌, ◌<◌, ◌^◌, ◌≤◌, eqb, get_or, length, set};
+mod lent;
+
+ghost use Rattle.std.specs.Prelude.{◌≡◌, cond, false, true, ◌+◌, ◌-◌, ◌<◌, ◌^◌, ◌≤◌, eqb, MatchOption};
 ghost use Rattle.std.specs.Int.Bits.{bit_or};
-ghost use Rattle.meaning.specs.Blocks.{size_count};
 ghost use Rattle.digits.specs.Digits.{First, bit_at, ones};
+ghost use Rattle.cells.specs.Tags.{Says};
 ghost use Rattle.cells.specs.Cell.{has_room_for, has_size, joined, mask_digits, open_count, packed, room_in, room_span, tag_in, whole_tag};
+
+pub use lent::{Cells, Table};
+use terms::Size;
 
 // The fields of a cell: room + ROOM_SPAN * (tag + TAG_SPAN * mask). What they mean is in specs/Cell.antt.
 const ROOM_SPAN: u64 = 64;
@@ -16,39 +21,7 @@ const TAG_SPAN: u64 = 64;
 const MASK_UNIT: u64 = ROOM_SPAN * TAG_SPAN;
 
 // The tag of a node that is one large live block.
-pub const WHOLE_TAG: u64 = 63;
-
-// ---- the table: every access is counted (section 5)
-
-// One access more.
-fn count(spent: &mut u64)
-    requires { spent.old < 2 ^ 32 }
-    ensures { spent.new ≡ spent.old + 1 }
-{
-    *spent = *spent + 1;
-}
-
-// The cell at a place. One access.
-pub fn get(t: &[u64], at: usize, spent: &mut u64) -> u64
-    requires inside { at < length t.now }
-    requires countable { spent.old < 2 ^ 32 }
-    ensures read { result ≡ get_or t.now at 0 }
-    ensures counted { spent.new ≡ spent.old + 1 }
-{
-    count(spent);
-    t[at]
-}
-
-// The cell at a place becomes v, and no other changes. One access.
-pub fn put(t: &mut [u64], at: usize, v: u64, spent: &mut u64)
-    requires inside { at < length t.old }
-    requires countable { spent.old < 2 ^ 32 }
-    ensures written { t.new ≡ set t.old at v }
-    ensures counted { spent.new ≡ spent.old + 1 }
-{
-    count(spent);
-    t[at] = v;
-}
+const WHOLE_TAG: u64 = 63;
 
 // ---- a bitmap: digit i is 1 where slot i is not live (section 2)
 
@@ -101,11 +74,7 @@ pub fn lowest(bits: u64) -> u64
     requires { 0 < bits }
     ensures { First bits result }
 {
-    let mut i = 0;
-    while !is_open(bits, i) {
-        i += 1;
-    }
-    i
+    (0..64).find(|i| is_open(bits, *i)).unwrap()
 }
 
 // How many slots are not live.
@@ -124,11 +93,32 @@ pub fn room_of(cell: u64) -> u64
     cell % ROOM_SPAN
 }
 
-// One more than the number of the size that a page serves; the tag of a large live block; 0 of any other node.
-pub fn tag_of(cell: u64) -> u64
-    ensures { result ≡ tag_in cell }
+// What the tag of a cell says of its node.
+#[derive(Clone, Copy)]
+pub enum Tag {
+    // A page that serves a size.
+    Page(Size),
+    // One large live block.
+    Whole,
+    // A tag that no sound table has.
+    Other(u64),
+}
+
+// What a cell's tag says, if the node has one.
+pub fn tag_of(cell: u64) -> Option<Tag>
+    ensures { MatchOption result (tag_in cell ≡ 0) (λ tag. Says tag (tag_in cell)) }
 {
-    cell / ROOM_SPAN % TAG_SPAN
+    let tag = cell / ROOM_SPAN % TAG_SPAN;
+    if tag == 0 {
+        return None;
+    }
+    if tag == WHOLE_TAG {
+        return Some(Tag::Whole);
+    }
+    match Size::numbered(tag - 1) {
+        Some(size) => Some(Tag::Page(size)),
+        None => Some(Tag::Other(tag)),
+    }
 }
 
 // Whether some page below serves size number c and has a slot that is not live (section 3, take).
@@ -196,15 +186,14 @@ pub fn vacant_cell(h: u64) -> u64
     h + 1
 }
 
-// The cell of a page that serves size number c, with its bitmap: a full page, whose bitmap is 0, has no slot to offer.
-pub fn page_cell(c: u64, bits: u64) -> u64
-    requires { c < size_count }
-    ensures { result ≡ packed 0 (c + 1) (cond (eqb bits 0) 0 (2 ^ c)) }
+// The cell of a page that serves a size, with its bitmap: a full page, whose bitmap is 0, has no slot to offer.
+pub fn page_cell(size: Size, bits: u64) -> u64
+    ensures { result ≡ packed 0 (size.number + 1) (cond (eqb bits 0) 0 (2 ^ size.number)) }
 {
-    let served = ROOM_SPAN * (c + 1);
+    let served = ROOM_SPAN * (size.number + 1);
     if bits == 0 {
         served
     } else {
-        served + MASK_UNIT * digit(c)
+        served + MASK_UNIT * digit(size.number)
     }
 }

@@ -1,24 +1,16 @@
-use mathlib.Core.Path.{◌∙◌, ◌≡◌, sym}
-use mathlib.Core.Bool.{false}
-use Prim.Native.Nat.{◌+◌, ◌<◌, ℕ}
-use borrow.Author.Count.{below_more}
-use native.Mathlib.Omega.{arith}
-use Rattle.digits.proofs.Digits.{zeros_lt}
+-- `cells::lowest` meets its contract: what the search finds is the lowest digit 1, and it finds one. Assumes nothing.
+use Rattle.std.proofs.Common.{◌≡◌, arith, false, rules, tests, true}
+use Rattle.std.proofs.lemmas.Iterator.{first_from_Range}
+use Rattle.std.proofs.option.Match.{if_some}
 use Rattle.digits.specs.Digits.{bit_at}
+use Rattle.cells.proofs.FirstOne.{finds_one}
 use Rattle.cells.proofs.lowest.Goals as goal
 
-pub loop-i-init : goal.loop-i-init
-loop-i-init c = (omega arith, λ j l. absurd (omega arith))
-
-pub loop-i-preserved : goal.loop-i-preserved
-loop-i-preserved c = let i = c.loop-i.i in
-    let here : bit_at i c.args.bits ≡ false = sym c.is_open.ensures ∙ c.loop-i-test.true in
-    let all : (j : ℕ) → j < i + 1 → bit_at j c.args.bits ≡ false = below_more _ i c.loop-i.invariant.1 here in
-    (zeros_lt 64 (i + 1) c.args.bits c.requires c.ranges.bits.fits all, all)
+pub unwrap-requires : goal.unwrap-requires
+unwrap-requires c = let bits = c.args.bits in
+    finds_one bits _ c.requires c.ranges.bits.fits (first_from_Range _ _ _ _ (λ i. bit_at i bits ≡ true) (λ i. bit_at i bits ≡ false) c.find.ensures.ran (λ x q k. search (rules, tests)) (λ x q k. search (rules, tests)))
 
 pub returns : goal.returns
-returns c = record {
-  within = c.loop-i.invariant.0;
-  there = sym c.is_open.ensures ∙ c.loop-i-test.false;
-  first = c.loop-i.invariant.1;
-}
+returns c = let bits = c.args.bits in
+    let found = if_some _ _ _ c.unwrap.ensures (first_from_Range _ _ _ _ (λ i. bit_at i bits ≡ true) (λ i. bit_at i bits ≡ false) c.find.ensures.ran (λ x q k. search (rules, tests)) (λ x q k. search (rules, tests))) in
+    record { within = found.1; there = found.2; first = λ j l. found.3 j (omega arith) l }

@@ -5,10 +5,10 @@ use native.Mathlib.Omega.{arith}
 use Rattle.cells.proofs.page_cell.Goals as goal
 
 pub overflow_mul-result : goal.overflow_mul-result
-overflow_mul-result c = omega (arith, pow-lt c.requires)
+overflow_mul-result c = omega (arith, pow-lt c.args.size.in_range)
 
 pub overflow_add-result : goal.overflow_add-result
-overflow_add-result c = omega (arith, pow-lt c.requires)
+overflow_add-result c = omega (arith, pow-lt c.args.size.in_range)
 
 pub returns-then-bits-eq0 : goal.returns-then-bits-eq0
 returns-then-bits-eq0 c = rw (eq-eqb c.args.bits 0 (omega arith)) (omega arith)
