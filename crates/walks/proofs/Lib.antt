@@ -1,3 +1,2 @@
--- What the walks look for, and what a store and a climb make together.
-pub mod Puts
-pub mod Wants
+-- Nodes with a tag.
+pub mod Tags

@@ -1,2 +1,3 @@
--- What the walks ensure.
+-- What the walks ensure, and what clauses say of a book.
 pub mod Posts
+pub mod Books

@@ -1,27 +1,40 @@
 -- What the walks ensure, of any table whatever: exact functions of the table, and the accesses. Assumes nothing.
-use Rattle.std.specs.Prelude.{◌≡◌, Bool, cond, List, ◌*◌, ◌+◌, ◌-◌, ◌<◌, ◌^◌, ◌≤◌, suc, ℕ, ltb, get_or, length, set}
-use Rattle.cells.specs.Cell.{has_room_for, has_size, room_span, tag_in}
+use Rattle.std.specs.Prelude.{◌≡◌, Bool, List, ◌*◌, ◌+◌, ◌-◌, ◌<◌, ◌^◌, ◌≤◌, suc, ℕ, get_or, length, set}
+use Rattle.cells.specs.Cell.{has_room_for, has_size, tag_in}
+use Rattle.cells.specs.Tags.{Says}
 use Rattle.table.specs.Walks.{above, climbed, descended, located}
 use Rattle.walks.specs.declared.Tagged.{Tagged}
+use Rattle.walks.specs.declared.Wanted.{Wanted}
+use Rattle.walks.specs.declared.Wanted.TheVariants.{Run, Slot}
 
--- what the way down looks for: below room_span, room for 2 ^ what pages; from there on, a slot of size number what - room_span
-abbrev pub wants : ℕ → ℕ → Bool
-wants what x = cond (ltb what room_span) (has_room_for what x) (has_size (what - room_span) x)
+-- what the way down looks for: room for 2 ^ k pages, or a slot of a size number
+abbrev pub wants : Wanted → ℕ → Bool
+wants (Run k) = has_room_for k
+wants (Slot c) = has_size c
+
+-- the size number that is asked for
+abbrev pub asked : Wanted → ℕ
+asked (Run k) = 0
+asked (Slot c) = c
 
 -- `down`: w is the node that is reached; s accesses before, s' after
-pub record Descended (levels what : ℕ) (t : List ℕ) (w s s' : ℕ) : Type 0 where
+pub record Descended (levels : ℕ) (what : Wanted) (t : List ℕ) (w s s' : ℕ) : Type 0 where
   pub exact : w ≡ descended (wants what) levels t 1
   pub from : 2 ^ levels ≤ w
   pub to : w < 2 * 2 ^ levels
   pub cost : s' ≡ s + levels
 
--- `locate`: the height of the first node with a tag from the leaf upward, more than m where there is none, and its tag
-pub record Located (t : List ℕ) (m leaf : ℕ) (r : Tagged) (s s' : ℕ) : Type 0 where
-  pub exact : r.height ≡ located (suc m) t leaf 0
-  pub tag : r.height ≤ m → r.tag ≡ tag_in (get_or t (above r.height leaf) 0)
-  pub most : r.height ≤ m + 1
-  pub cost : s' ≤ s + (r.height + 1)
-  pub cost_all : s' ≤ s + (m + 1)
+-- `locate`: the first node with a tag from the leaf upward, and its tag
+pub record Located (t : List ℕ) (m leaf : ℕ) (found : Tagged) (s s' : ℕ) : Type 0 where
+  pub exact : found.height ≡ located (suc m) t leaf 0
+  pub tag : Says found.tag (tag_in (get_or t (above found.height leaf) 0))
+  pub within : found.height ≤ m
+  pub cost : s' ≤ s + (found.height + 1)
+
+-- no node from the leaf upward has a tag
+pub record Untagged (t : List ℕ) (m leaf s s' : ℕ) : Type 0 where
+  pub exact : m + 1 ≡ located (suc m) t leaf 0
+  pub cost : s' ≤ s + (m + 1)
 
 -- `up`: from the node v of height h to the root
 pub record Climbed (m v h : ℕ) (t t' : List ℕ) (s s' : ℕ) : Type 0 where

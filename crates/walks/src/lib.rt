@@ -1,81 +1,80 @@
 // The three walks over the table (docs/TABLE.md): down, locate, up. Loops only; every index is bounded by numbers that do not come out of the table.
 #![tactic(auto)]
 
-ghost use Rattle.std.specs.Prelude.{◌≡◌, ◌%◌, ◌+◌, ◌*◌, ◌-◌, ◌<◌, ◌≤◌, ◌^◌, length, get_or};
+ghost use Rattle.std.specs.Prelude.{◌≡◌, ◌%◌, ◌+◌, ◌*◌, ◌-◌, ◌<◌, ◌≤◌, ◌^◌, MatchOption, length, get_or};
 ghost use Rattle.meaning.specs.Blocks.{m_most};
-ghost use Rattle.cells.specs.Cell.{room_span, mask_digits};
-ghost use Rattle.table.specs.Table.{need};
+ghost use Rattle.cells.specs.Cell.{mask_digits};
 ghost use Rattle.table.specs.Walks.{above};
-ghost use Rattle.walks.specs.Posts.{wants, Descended, Located, Climbed, NodePut, LeafPut};
+ghost use Rattle.walks.specs.Posts.{Climbed, Descended, Located, Untagged, asked, wants};
 
-use cells::{get, has_room_for, has_size, join, put, tag_of};
+mod book;
 
-// From here on `down` looks for a slot of a size: of size number `what - SIZES_FROM`.
-pub const SIZES_FROM: u64 = 64;
+pub use book::{Book, Shown, Written};
+use cells::{Cells, Table, Tag, has_room_for, has_size, join, tag_of};
+use terms::Arena;
 
-// Whether a cell has what is looked for: room for 2^what pages, or a slot of size number what - SIZES_FROM.
-fn wanted(cell: u64, what: u64) -> bool
-    requires { what < room_span + mask_digits }
-    ensures { result ≡ wants what cell }
-{
-    if what < SIZES_FROM {
-        has_room_for(cell, what)
-    } else {
-        has_size(cell, what - SIZES_FROM)
+// What `down` looks for.
+#[derive(Clone, Copy)]
+pub enum Wanted {
+    // Room for 2^k pages.
+    Run(u64),
+    // A slot of a size number.
+    Slot(u64),
+}
+
+impl Wanted {
+    // Whether a cell has what is looked for.
+    fn is_in(self, cell: u64) -> bool
+        requires { asked self < mask_digits }
+        ensures { result ≡ wants self cell }
+    {
+        match self {
+            Wanted::Run(k) => has_room_for(cell, k),
+            Wanted::Slot(c) => has_size(cell, c),
+        }
     }
 }
 
 // From the root `levels` down, by the left half where its cell has what is looked for, else by the right: the node that is reached.
-pub fn down(t: &[u64], levels: u64, what: u64, spent: &mut u64) -> usize
-    requires what_in_range { what < room_span + mask_digits }
+pub fn down<C: Cells>(table: &mut Table<C>, levels: u64, what: Wanted) -> usize
+    requires what_in_range { asked what < mask_digits }
     requires levels_in_range { levels ≤ m_most }
-    requires nodes_in_table { 2 * 2 ^ levels ≤ length t.now }
-    requires few_spent { spent.old < 2 ^ 31 }
-    ensures { Descended levels what t.now result spent.old spent.new }
+    requires nodes_in_table { 2 * 2 ^ levels ≤ length (C.list table.old.cells) }
+    requires few_spent { table.old.spent < 2 ^ 31 }
+    ensures same_cells { table.new.cells ≡ table.old.cells }
+    ensures reached { Descended levels what (C.list table.old.cells) result table.old.spent table.new.spent }
 {
-    let mut v: usize = 1;
-    let mut d: u64 = 0;
-    while d < levels {
-        let cell = get(t, 2 * v, &mut *spent);
-        d = d + 1;
-        if wanted(cell, what) {
-            v = 2 * v;
-        } else {
-            v = 2 * v + 1;
+    let mut v = 1;
+    for _d in 0..levels {
+        v = 2 * v;
+        if !what.is_in(table.get(v)) {
+            v += 1;
         }
     }
     v
 }
 
-// A node's height and its tag; a height above m stands for no node.
+// A node's height above its leaves, and its tag.
 #[derive(Clone, Copy)]
 pub struct Tagged {
     pub height: u64,
-    pub tag: u64,
+    pub tag: Tag,
 }
 
 // From a leaf upward to the first node with a tag.
-pub fn locate(t: &[u64], m: u64, leaf: usize, spent: &mut u64) -> Tagged
-    requires m_in_range { m ≤ m_most }
-    requires leaf_in_table { leaf < length t.now }
-    requires few_spent { spent.old < 2 ^ 31 }
-    ensures { Located t.now m leaf result spent.old spent.new }
+pub fn locate<C: Cells>(table: &mut Table<C>, arena: Arena, leaf: usize) -> Option<Tagged>
+    requires leaf_in_table { leaf < length (C.list table.old.cells) }
+    requires few_spent { table.old.spent < 2 ^ 31 }
+    ensures same_cells { table.new.cells ≡ table.old.cells }
+    ensures found { MatchOption result (Untagged (C.list table.old.cells) arena.m leaf table.old.spent table.new.spent) (λ found. Located (C.list table.old.cells) arena.m leaf found table.old.spent table.new.spent) }
 {
-    let mut v = leaf;
-    let mut h: u64 = 0;
-    while h <= m {
-        let cell = get(t, v, &mut *spent);
-        let tag = tag_of(cell);
-        if tag != 0 {
-            return Tagged {
-                height: h,
-                tag: tag,
-            };
+    for height in 0..=arena.m {
+        let cell = table.get(node_above(leaf, height));
+        if let Some(tag) = tag_of(cell) {
+            return Some(Tagged { height, tag });
         }
-        v = v / 2;
-        h = h + 1;
     }
-    Tagged { height: h, tag: 0 }
+    None
 }
 
 // The node h levels above a leaf.
@@ -95,59 +94,29 @@ fn sibling(v: usize) -> usize
 }
 
 // From the node `at` of a height, whose cell has the value x, to the root: each node above it becomes the join of its halves.
-pub fn up(t: &mut [u64], m: u64, at: usize, height: u64, value: u64, spent: &mut u64)
-    requires height_in_range { height ≤ m }
-    requires m_in_range { m ≤ m_most }
-    requires at_below { at < 2 * 2 ^ m }
-    requires nodes_in_table { 2 * 2 ^ m ≤ length t.old }
-    requires value_stored { value ≡ get_or t.old at 0 }
-    requires few_spent { spent.old < 2 ^ 31 }
-    ensures { Climbed m at height t.old t.new spent.old spent.new }
+pub fn up(table: &mut Table<&mut [u64]>, arena: Arena, at: usize, height: u64, value: u64)
+    requires height_in_range { height ≤ arena.m }
+    requires at_below { at < 2 * 2 ^ arena.m }
+    requires nodes_in_table { 2 * 2 ^ arena.m ≤ length table.old.cells.now }
+    requires value_stored { value ≡ get_or table.old.cells.now at 0 }
+    requires few_spent { table.old.spent < 2 ^ 31 }
+    ensures same_lender { table.new.cells.ghost_name ≡ table.old.cells.ghost_name }
+    ensures climbed { Climbed arena.m at height table.old.cells.now table.new.cells.now table.old.spent table.new.spent }
 {
     let mut v = at;
-    let mut h = height;
     let mut x = value;
-    while h < m {
-        let other = get(t, sibling(v), &mut *spent);
+    for h in height..arena.m {
+        let other = table.get(sibling(v));
         x = join(x, other, h);
-        v = v / 2;
-        put(t, v, x, &mut *spent);
-        h = h + 1;
+        v /= 2;
+        table.put(v, x);
     }
 }
 
-// A cell stored at the node v of a height, and the nodes above it mended.
-pub fn put_node(t: &mut [u64], m: u64, v: usize, height: u64, cell: u64, spent: &mut u64)
-    requires height_in_range { height ≤ m }
-    requires m_in_range { m ≤ m_most }
-    requires v_below { v < 2 * 2 ^ m }
-    requires nodes_in_table { 2 * 2 ^ m ≤ length t.old }
-    requires few_spent { spent.old < 2 ^ 30 }
-    ensures { NodePut m v height cell t.old t.new spent.old spent.new }
-{
-    put(t, v, cell, &mut *spent);
-    up(t, m, v, height, cell, &mut *spent);
-}
-
 // The place of a leaf's bitmap.
-pub fn map_of(m: u64, w: usize) -> usize
-    requires m_in_range { m ≤ m_most }
-    requires w_below { w < 2 * 2 ^ m }
-    ensures { result ≡ w + 2 ^ m }
+pub fn map_of(arena: Arena, w: usize) -> usize
+    requires { w < 2 * 2 ^ arena.m }
+    ensures { result ≡ w + 2 ^ arena.m }
 {
-    w + (1 << m)
-}
-
-// A bitmap and a cell stored at the leaf w, and the nodes above it mended.
-pub fn put_leaf(t: &mut [u64], m: u64, w: usize, cell: u64, bits: u64, spent: &mut u64)
-    requires m_in_range { m ≤ m_most }
-    requires w_from { 2 ^ m ≤ w }
-    requires w_below { w < 2 * 2 ^ m }
-    requires table_fits { need m ≤ length t.old }
-    requires few_spent { spent.old < 2 ^ 30 }
-    ensures { LeafPut m w cell bits t.old t.new spent.old spent.new }
-{
-    put(t, map_of(m, w), bits, &mut *spent);
-    put(t, w, cell, &mut *spent);
-    up(t, m, w, 0, cell, &mut *spent);
+    w + arena.pages()
 }

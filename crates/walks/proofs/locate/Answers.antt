@@ -1,47 +1,37 @@
-use mathlib.Core.Path.{◌≡◌, ◌∙◌, ap, refl, sym}
-use Prim.Native.Nat.{◌/◌, ℕ}
-use borrow.Author.Rules.{rules}
-use mathlib.Core.List.{List}
-use lib.ListN.{get_or}
-use native.Mathlib.Omega.{arith}
+use Rattle.std.proofs.Common.{arith, ◌^◌, ◌≡◌, ap, get_or, length, subst, sym, ◌∙◌}
+use Rattle.std.proofs.Math.Nat.{div-le_self}
 use Rattle.cells.specs.Cell.{tag_in}
-use Rattle.table.proofs.Locate.{above_next, located_begin, located_end, located_here, located_turn}
+use Rattle.cells.specs.Tags.{Says}
+use Rattle.table.specs.Walks.{above}
+use Rattle.table.proofs.Locate.{above_div, above_next, located_here, located_turn}
+use Rattle.walks.proofs.Tags.{tagged}
 use Rattle.walks.proofs.locate.Goals as goal
 
-pub loop-h-init : goal.loop-h-init
-loop-h-init c = (search rules, search rules, refl, search rules, located_begin c.args.t.now c.args.m _)
+pub get-cell-requires-clause-inside : goal.get-cell-requires-clause-inside
+get-cell-requires-clause-inside g c =
+    let long = ap (λ cells. length (g.C.Cells.list cells)) c.loop-height.invariant.same in
+    let below = div-le_self c.args.leaf (2 ^ c.loop-height.height) in
+    omega (arith, above_div c.loop-height.height c.args.leaf)
 
--- what was read is the tag of the node's cell
-tag_read : (t : List ℕ) (v cell tag : ℕ) → tag ≡ tag_in cell → cell ≡ get_or t v 0 → tag ≡ tag_in (get_or t v 0)
-tag_read t v cell tag e f = e ∙ ap tag_in f
-
-pub returns-then-tag-ne0 : goal.returns-then-tag-ne0
-returns-then-tag-ne0 c = let t = c.args.t.now in
+pub returns-in-Some-clause-found : goal.returns-in-Some-clause-found
+returns-in-Some-clause-found g c =
+    let h = c.loop-height.height in
+    let read : c.get-cell.result ≡ get_or (g.C.Cells.list c.args.table.now.cells) (above h c.args.leaf) 0 = cc in
+    let says : Says c.in-Some.tag (tag_in (get_or (g.C.Cells.list c.args.table.now.cells) (above h c.args.leaf) 0)) = subst (λ x. Says c.in-Some.tag (tag_in x)) read c.in-Some.ensures in
     record {
-      exact =
-          sym (located_here t _ c.loop-h.v c.loop-h.h c.loop-h-test.true (λ z. c.if-tag-ne0.true (tag_read c.args.t.now c.loop-h.v _ _ c.tag_of-tag.ensures c.get-cell.ensures.read ∙ z)))
-          ∙ c.loop-h.invariant.4;
-      tag = λ l. tag_read c.args.t.now c.loop-h.v _ _ c.tag_of-tag.ensures c.get-cell.ensures.read ∙ ap (λ (v : ℕ). tag_in (get_or t v 0)) c.loop-h.invariant.2;
-      most = omega arith;
+      exact = sym (located_here _ _ (above h c.args.leaf) h (omega arith) (tagged _ _ says)) ∙ (rw c.loop-height.invariant.same at c.loop-height.invariant.way);
+      tag = says;
+      within = omega arith;
       cost = omega arith;
-      cost_all = omega arith;
     }
 
-pub loop-h-preserved : goal.loop-h-preserved
-loop-h-preserved c = (
-  search rules,
-  search rules,
-  ap (λ (v : ℕ). v / 2) c.loop-h.invariant.2 ∙ sym (above_next c.loop-h.h c.args.leaf),
-  search rules,
-  sym (located_turn c.args.t.now _ c.loop-h.v c.loop-h.h c.loop-h-test.true (sym (tag_read c.args.t.now c.loop-h.v _ _ c.tag_of-tag.ensures c.get-cell.ensures.read) ∙ c.if-tag-ne0.false))
-      ∙ c.loop-h.invariant.4,
-)
-
-pub returns : goal.returns
-returns c = record {
-  exact = sym (located_end c.args.t.now _ c.loop-h.v c.loop-h.h c.loop-h-test.false) ∙ c.loop-h.invariant.4;
-  tag = λ l. absurd (omega arith);
-  most = omega arith;
-  cost = omega arith;
-  cost_all = omega arith;
-}
+pub loop-height-preserved : goal.loop-height-preserved
+loop-height-preserved g c =
+    let h = c.loop-height.height in
+    let read : c.get-cell.result ≡ get_or (g.C.Cells.list c.args.table.now.cells) (above h c.args.leaf) 0 = cc in
+    let same : c.get-cell.new.self.cells ≡ c.args.table.now.cells = cc in
+    record {
+      same = same;
+      counted = omega arith;
+      way = rw (same, above_next h c.args.leaf) (sym (located_turn _ _ (above h c.args.leaf) h (omega arith) (ap tag_in (sym read) ∙ c.in_default.ensures)) ∙ (rw c.loop-height.invariant.same at c.loop-height.invariant.way));
+    }

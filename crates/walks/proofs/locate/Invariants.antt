@@ -1,16 +1,11 @@
--- `walks::locate` meets its contract. The loop's invariant: v is the node h levels above the leaf, and the way up from v ends where the way from the leaf does.
--- The measure is the levels that are left. Assumes nothing.
-use mathlib.Core.Path.{◌≡◌}
-use Prim.Native.Nat.{◌+◌, ◌-◌, ◌≤◌, suc}
+-- `walks::locate` meets its contract. The loop's invariant: the way up from the node of this height ends where the way from the leaf does. Assumes nothing.
+use Rattle.std.proofs.Common.{◌+◌, ◌-◌, ◌≡◌, suc}
 use Rattle.table.specs.Walks.{above, located}
 use Rattle.walks.proofs.locate.Given as goal
 
-abbrev pub invariant-loop-h : goal.invariant-loop-h
-invariant-loop-h l = (l.h ≤ l.m + 1)
-    × (l.v ≤ l.leaf)
-    × (l.v ≡ above l.h l.leaf)
-    × (l.spent ≡ l.initial.spent + l.h)
-    × (located (l.m + 1 - l.h) l.t l.v l.h ≡ located (suc l.m) l.t l.leaf 0)
-
-abbrev pub decreases-loop-h : goal.decreases-loop-h
-decreases-loop-h l = l.m + 1 - l.h
+abbrev pub invariant-loop-height : goal.invariant-loop-height
+invariant-loop-height g l = record {
+  same : l.table.cells ≡ l.initial.table.cells;
+  counted : l.table.spent ≡ l.initial.table.spent + l.height;
+  way : located (l.fn.arena.m + 1 - l.height) (g.C.Cells.list l.table.cells) (above l.height l.leaf) l.height ≡ located (suc l.fn.arena.m) (g.C.Cells.list l.initial.table.cells) l.leaf 0;
+}

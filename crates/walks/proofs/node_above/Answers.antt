@@ -1,5 +1,5 @@
 -- `walks::node_above` meets its contract: each level above halves the number. Assumes nothing.
-use mathlib.Core.Path.{sym}
+use Rattle.std.proofs.Common.{sym}
 use Rattle.table.proofs.Locate.{above_div}
 use Rattle.walks.proofs.node_above.Goals as goal
 

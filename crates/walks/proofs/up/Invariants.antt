@@ -1,19 +1,14 @@
--- `walks::up` meets its contract. The loop's invariant: x is the cell of v, and what is still to be climbed from here is what was to be climbed at the start.
--- The measure is the levels that are left. Assumes nothing.
-use mathlib.Core.Path.{◌≡◌}
-use Prim.Native.Nat.{◌*◌, ◌+◌, ◌-◌, ◌<◌, ◌^◌, ◌≤◌}
-use lib.ListN.{get_or, length}
+-- `walks::up` meets its contract. The loop's invariant: x is the cell of v, and what is still to be climbed from here is what was to be climbed at the start. Assumes nothing.
+use Rattle.std.proofs.Common.{◌*◌, ◌+◌, ◌-◌, ◌<◌, ◌^◌, ◌≡◌, get_or, length}
 use Rattle.table.specs.Walks.{climbed}
 use Rattle.walks.proofs.up.Given as goal
 
 abbrev pub invariant-loop-h : goal.invariant-loop-h
-invariant-loop-h l = (l.h ≤ l.m)
-    × (l.height ≤ l.h)
-    × (l.v < 2 * 2 ^ l.m)
-    × (length l.t ≡ length l.initial.t)
-    × (l.spent ≡ l.initial.spent + 2 * (l.h - l.height))
-    × (l.x ≡ get_or l.t l.v 0)
-    × (climbed (l.m - l.h) l.t l.v l.h ≡ climbed (l.m - l.height) l.initial.t l.at l.height)
-
-abbrev pub decreases-loop-h : goal.decreases-loop-h
-decreases-loop-h l = l.m - l.h
+invariant-loop-h l = record {
+  small : l.v < 2 * 2 ^ l.fn.arena.m;
+  lender : l.table.cells.ghost_name ≡ l.initial.table.cells.ghost_name;
+  long : length l.table.cells.now ≡ length l.initial.table.cells.now;
+  counted : l.table.spent ≡ l.initial.table.spent + 2 * (l.h - l.height);
+  own : l.x ≡ get_or l.table.cells.now l.v 0;
+  way : climbed (l.fn.arena.m - l.h) l.table.cells.now l.v l.h ≡ climbed (l.fn.arena.m - l.height) l.initial.table.cells.now l.at l.height;
+}
