@@ -1,12 +1,15 @@
-"""No function but `cells::get` and `cells::put` reads or writes an element of a slice of u64: so no access to the table goes round the count.
+"""No function but those that make an access, the two `Cells::cell` and `Table::put`, reads or writes an element of a slice of u64: so no access to the
+table goes round the count.
 
 Works on the code as it is proved and compiled (`mir.py`). There an element of a slice is reached by `offset` from the
 slice's pointer, its field 0, and then by a `deref`. A part of a slice is made by `offset` too, and is not dereferenced. So that no element is
-reached in another way, a slice of u64 stands nowhere but in a local or a parameter of its own, and is one that came in or a part of it.
+reached in another way, a slice of u64 stands nowhere but in a local or a parameter of its own, and as the cells of a table or a book, which names
+nobody but `cells`; one that stands by itself came in or is a part of one that did, and is lent to functions that take such a slice, and for the
+cells of a book.
 """
-from mir import assigns, calls, items, kinds, local_of, named, parameters, place_of, walk
+from mir import assigns, calls, given_types, items, kinds, kinds_along, local_of, named, parameters, place_of, strayed, walk
 
-# an example for the check of this check; a function whose name starts with `gets` is one that may make an access
+# an example for the check of this check; a function whose name starts with `gets` is one that may make an access, and so are the impls of `Cells` and `put`
 SAMPLE = """
 pub fn reads(t: &[u64]) -> u64 {
     if 3 < t.len() { t[3] } else { 0 }
@@ -213,6 +216,149 @@ pub fn asks_what_was_called<'a>(t: &'a [u64], mut list: &'a [u64]) -> u64 {
 pub fn asks_and_reads(t: &[u64], list: &[u64]) -> u64 {
     number_at(list, 0) / 2 + t[0] / 2
 }
+
+// ---- a slice in other forms
+
+pub fn reads_in_a_loop(t: &[u64]) -> u64 {
+    let mut all = 0;
+    for x in t {
+        all ^= *x;
+    }
+    all
+}
+
+pub fn writes_in_a_loop(t: &mut [u64]) {
+    for x in t.iter_mut() {
+        *x = 0;
+    }
+}
+
+pub fn reads_by_a_pattern(t: &[u64]) -> u64 {
+    match t {
+        [first, ..] => *first,
+        [] => 0,
+    }
+}
+
+pub fn reads_the_first(t: &[u64]) -> Option<&u64> {
+    t.first()
+}
+
+pub fn reads_by_get(t: &[u64]) -> Option<&u64> {
+    t.get(3)
+}
+
+pub fn writes_by_swap(t: &mut [u64]) {
+    if 3 < t.len() {
+        t.swap(1, 2);
+    }
+}
+
+pub fn writes_by_fill(t: &mut [u64]) {
+    t.fill(0);
+}
+
+pub fn reads_by_an_iterator(t: &[u64]) -> bool {
+    t.iter().any(|x| *x == 7)
+}
+
+pub fn reads_in_a_closure(t: &[u64], n: usize) -> Option<usize> {
+    (0..n).find(|at| *at < t.len() && t[*at] == 7)
+}
+
+fn first_of_any<T: Copy>(t: &[T], other: T) -> T {
+    if 0 < t.len() { t[0] } else { other }
+}
+
+pub fn reads_as_any(t: &[u64]) -> u64 {
+    first_of_any(t, 0)
+}
+
+fn itself<T>(x: T) -> T {
+    x
+}
+
+pub fn lends_as_any(t: &[u64]) -> usize {
+    count(itself(t))
+}
+
+pub fn wraps(t: &[u64]) -> Option<&[u64]> {
+    if 3 < t.len() { Some(t) } else { None }
+}
+
+pub fn pairs(t: &[u64]) -> (&[u64], usize) {
+    (t, t.len())
+}
+
+// ---- cells that are lent
+
+pub trait Cells: Drop {
+    fn cell(&self, at: usize) -> u64;
+}
+
+impl<'a> Cells for &'a [u64] {
+    fn cell(&self, at: usize) -> u64 {
+        self[at]
+    }
+}
+
+impl<'a> Cells for &'a mut [u64] {
+    fn cell(&self, at: usize) -> u64 {
+        self[at] / 2 + self[at] / 2
+    }
+}
+
+#[derive(Drop)]
+pub struct Table<C: Cells> {
+    cells: C,
+    spent: u64,
+}
+
+impl<C: Cells> Table<C> {
+    pub fn new(cells: C) -> Table<C> {
+        Table { cells, spent: 0 }
+    }
+
+    pub fn get(&self, at: usize) -> u64 {
+        self.cells.cell(at)
+    }
+}
+
+impl<'a> Table<&'a mut [u64]> {
+    pub fn put(&mut self, at: usize, v: u64) {
+        self.cells[at] = v;
+    }
+
+    pub fn set(&mut self, at: usize, v: u64) {
+        self.cells[at] = v;
+    }
+
+    pub fn cells(&mut self) -> &mut [u64] {
+        self.cells
+    }
+}
+
+#[derive(Drop)]
+pub struct Shelf<C: Cells> {
+    cells: C,
+}
+
+pub fn makes_a_table(t: &mut [u64]) -> u64 {
+    let mut table = Table::new(&mut t[..3]);
+    table.put(0, 1);
+    table.get(1)
+}
+
+pub fn makes_a_shelf(t: &[u64]) -> usize {
+    let shelf = Shelf { cells: t };
+    3
+}
+
+pub fn makes_a_table_of_an_array() -> u64 {
+    let a: [u64; 4] = [1, 2, 3, 4];
+    let table = Table::new(&a[..]);
+    table.get(1)
+}
 """
 # the functions of the example that have lists of requests or answers, each with the numbers of its parameters that are
 SAMPLE_LISTS = {f"sample::{name}": {"2"} for name in ("asks", "asks_twice", "asks_the_table", "asks_the_wrong_way_round", "asks_what_was_assigned",
@@ -245,6 +391,26 @@ FAULTS = {
     "asks_what_was_assigned": "lends sample::number_at something else than a list",
     "asks_what_was_called": "lends sample::number_at something else than a list",
     "asks_and_reads": "reaches 1 elements",
+    "reads_in_a_loop": "reaches 1 elements",
+    "writes_in_a_loop": "reaches 1 elements",
+    "reads_by_a_pattern": "reaches 1 elements",
+    "reads_the_first": "lends a slice of u64 to std::slice+T::first",
+    "reads_by_get": "lends a slice of u64 to std::slice+T::get",
+    "writes_by_swap": "lends a slice of u64 to std::slice+T::swap",
+    "writes_by_fill": "lends a slice of u64 to std::slice+T::fill",
+    "reads_by_an_iterator": "lends a slice of u64 to std::slice+T::iter",
+    "reads_in_a_closure": "has a slice of u64 below the top of a type",
+    "fn::reads_in_a_closure::find": "has a slice of u64 below the top of a type",
+    "fn::reads_in_a_closure::find+FnMut::call_mut": "has a slice of u64 below the top of a type",
+    "fn::reads_in_a_closure::find+FnOnce::call_once": "has a slice of u64 below the top of a type",
+    "reads_as_any": "lends a slice of u64 to sample::first_of_any",
+    "lends_as_any": "lends a slice of u64 to sample::itself",
+    "wraps": "has a slice of u64 below the top of a type",
+    "pairs": "has a slice of u64 below the top of a type",
+    "RefMutSliceU64Cells::cell": "reaches 2 elements",
+    "Table+mut+slice+u64::set": "reaches 1 elements",
+    "makes_a_shelf": "has a slice of u64 below the top of a type",
+    "makes_a_table_of_an_array": "has a slice of u64 that is no part of one that came in",
 }
 
 
@@ -261,23 +427,34 @@ def slices(body):
     return {str(number) for number, kind in enumerate(kinds(body)) if is_table(kind)}
 
 
-def buried(body):
-    """How many slices of u64 a function's types have below their top: behind a reference, in an array, in a field of a struct."""
-    return sum(1 for node in walk(body) if is_table(node)) - len(slices(body))
+def buried(body, holders):
+    """How many slices of u64 a function's types have below their top, but for the cells of a table or a book: behind a reference, in an array, in a field of a struct."""
+    known = {id(kind) for kind in kinds(body)}
+    for node in walk(body):
+        if node[0] == "tyNamed" and node[1][1].strip('"') in holders:
+            known |= {id(one) for one in given_types(node)}
+        if node[0] == "direct":
+            known |= {id(one) for one in items(node[2])}
+    return sum(1 for node in walk(body) if is_table(node) and id(node) not in known)
+
+
+def names_pointer(body, place):
+    """Whether a place steps to the pointer of a slice of u64, or through it; and whether it ends there."""
+    steps = items(place[2])
+    found = [at for at, (kind, step) in enumerate(zip(kinds_along(body, place), steps)) if is_table(kind) and step == ["field", "0"]]
+    return bool(found), found == [len(steps) - 1]
 
 
 def elements(body):
     """The places that name an element of a slice of u64, or its pointer other than to make a pointer into it."""
-    lists = slices(body)
     pointers = set()
     making = {id(target) for target, _ in assigns(body) if not items(target[2])}
     for target, value in assigns(body):
         base = place_of(value[2]) if value[:2] == ["op2", "offset"] else None
-        if base and base[1] in lists and items(base[2]) == [["field", "0"]]:
+        if base and names_pointer(body, base) == (True, True):
             pointers.add(target[1])
             making.add(id(base))
-    return [place for place in named(body) if id(place) not in making
-            and (place[1] in pointers or place[1] in lists and items(place[2])[:1] == [["field", "0"]])]
+    return [place for place in named(body) if id(place) not in making and (place[1] in pointers or names_pointer(body, place)[0])]
 
 
 def lent_elements(body):
@@ -316,14 +493,6 @@ def origins(body, local, seen=()):
     return found
 
 
-def lent_outside(body, crates):
-    """The functions that are lent a slice of u64 and are of none of these crates."""
-    lists = slices(body)
-    for called, arguments, _ in calls(body):
-        if any(local_of(one) in lists for one in arguments) and (called is None or called.split("::")[0] not in crates):
-            yield called or "a function that the call does not name"
-
-
 def mistaken(body, own, lists):
     """The functions that are lent something else than lists where they have lists; the function's own lists are the parameters of these numbers."""
     for called, arguments, _ in calls(body):
@@ -333,21 +502,23 @@ def mistaken(body, own, lists):
                 yield called
 
 
-def faults(bodies, accesses, lists, hosts, crates):
-    """Faults of a program: its functions, those that make one access each, the numbers of the parameters that are lists of requests or answers,
-    the functions of the host that lends the table, the crates that the table may be lent to.
+def faults(bodies, accesses, makers, holders, lists, hosts):
+    """Faults of a program: its functions, those that make one access each, those that are lent the cells of a table or a book, the types of these, the
+    numbers of the parameters that are lists of requests or answers, the functions of the host that lends the table.
     """
     wrong = []
     for name, body in bodies.items():
         own = lists.get(name, set())
-        made = [origins(body, one) for one in slices(body)]
-        found = access_faults(body) if name in accesses else []
-        if name not in accesses | hosts and reached(body) and not all(one and one <= own for one in made):
-            found.append(f"reaches {reached(body)} elements of a slice of u64")
-        if name not in hosts and not all(one and one <= {*parameters(body), "a call"} for one in made):
-            found.append("has a slice of u64 that is no part of one that came in")
-        found += ["has a slice of u64 below the top of a type"] if buried(body) else []
-        found += [f"lends a slice of u64 to {one}" for one in lent_outside(body, crates)]
-        found += [f"lends {one} something else than a list of requests or answers" for one in mistaken(body, own, lists)]
+        found = [f"lends {one} something else than a list of requests or answers" for one in mistaken(body, own, lists)]
+        if name in accesses:
+            found += access_faults(body)
+        elif not own or own != slices(body) & {*parameters(body)}:
+            # where all slices that come in are lists, there is no table
+            if name not in hosts:
+                found += [f"reaches {reached(body)} elements of a slice of u64"] if reached(body) else []
+                found += ["has a slice of u64 that is no part of one that came in"] if not all(
+                    one and one <= {*parameters(body), "a call"} for one in (origins(body, one) for one in slices(body))) else []
+            found += ["has a slice of u64 below the top of a type"] if buried(body, holders) else []
+            found += [f"lends a slice of u64 to {one}" for one in strayed(body, bodies, is_table) if one not in makers]
         wrong += [f"{name} {one}" for one in dict.fromkeys(found)]
     return wrong

@@ -1,671 +1,1128 @@
-"""The number of accesses that a request hands out is the one that `cells::get` and `cells::put` counted.
+"""The number of accesses that a request hands out is the one that `Table::get` and `Table::put` counted.
 
-The contracts say that `cells::count` adds one, and they bound the number that a request hands out. They can't say that every function on the way
-counts on this one number, or that it is the number handed out. These rules over the code as it is proved and compiled (`mir.py`) say it:
+The contracts say that each of them adds one, and they bound the number that a request hands out. They can't say that every function on the way
+counts on this one table, or that it is its number that is handed out. These rules over the code as it is proved and compiled (`mir.py`) say it:
 
-- A function that counts has one `&mut u64`, its last parameter. It does nothing with it but lend it on, as the last argument, to functions that
-  count, and lends such a function nothing else. (`cells::count` alone looks behind it. Those that make an access, and no others, call it, once.)
-- A function that does not count, but calls one that does, opens a count: a local that is set to 0 once, before any such call, is lent as above and is
-  otherwise only read. What the function returns after such a call is a reply with the local's last value as its second field. It calls no function
-  that counts on another count.
-- A function that is handed a reply with its count returns it as it is, or adds its count to a sum that was set to 0 once, before any such call, and
-  returns a reply with the sum's last value as its second field. The reply is not changed before, and no other function that counts is called.
-- Where nothing was counted, the second field is 0.
+- `Table::count` alone changes a table's count, and adds one to it. `get` and `put` alone call it, once, and make their access, `get` by the one call of
+  `Cells::cell`. `Table::new` sets the count to 0 and `Table::spent` tells it; `Book::new` and `Book::spent` alone call those.
+- Elsewhere a table or a book is lent on as it came, to functions that take one there, and a book's arena is read: nothing else is done with it. So it
+  stands nowhere but behind a reference of its own. Below a request nobody has one of its own, looks at its count, or reaches its fields.
+- A request makes one book, over a slice of u64, and has no loop. On each way to its end it hands out a reply whose second field is what the book's
+  `spent` told when nothing more was done with the book, or 0 where no book was made.
+- A function that is handed a reply with its count returns it as it is or puts its count into a result of its own, or adds its count to a sum that was
+  set to 0 once, before any such call, and returns a result with the sum's last value at its end. A result with no count is for where nothing was counted.
 - A function of the C interface makes one request at most, by itself and by all that it calls.
-- Each call names the function that it calls. The host alone, which is no part of the library, may call through a bound, and lends no count there.
+- Each call names the function that it calls, but for the call of `Cells::cell` in `Table::get` and those that run.py lists. The host, which is no part
+  of the library, may call through a bound, and has no table or book.
 
 Where the code has another shape than these rules know, they complain.
 """
+import functools
 from dataclasses import dataclass, replace
 
-from mir import addressed, assigns, callee, calls, items, kinds, local_of, parameters, place_of, places, walk
+from accesses import is_table
+from mir import addressed, arms, assigns, callee, calls, given_types, handed, items, kind_of, kinds, local_of, named, parameters, place_of, strayed, target, walk, ways
 
 NONE = ["int", "64", "0"]
-# the parts of a function: a function that is free makes requests and hands out no count, and so does the host that lends the table
+# the parts of a function: one that is free makes requests and hands out no count, and so does the host that lends the table; one that tells makes replies
+# with no count
 PARTS = ("counts", "opens", "adds", "asks", "free", "host")
+HANDING = ("opens", "tells", "adds")
+# the functions of a table that are what their names say and nothing more
+EXACT = ("new", "get", "put", "count", "spent")
 
-# an example for the check of this check; the first word of a name is the part that the function plays
+# an example for the check of this check; the first word of a function's name is the part that it plays; `Lax`, `Slack` and `Idle` are tables, `Loose` is a book
 SAMPLE = """
-#[derive(Clone, Copy)]
-pub struct Counted {
-    pub reply: u64,
-    pub spent: u64,
+use std::mem;
+
+// ---- a table and a book, and what is made of them rightly
+
+pub trait Cells: Drop {
+    fn cell(&self, at: usize) -> u64;
 }
 
-#[derive(Clone, Copy)]
-pub struct Summed {
-    pub last: u64,
-    pub spent: u64,
+impl<'a> Cells for &'a [u64] {
+    fn cell(&self, at: usize) -> u64 {
+        self[at]
+    }
 }
 
-#[derive(Clone, Copy)]
-pub struct Boxed {
-    pub counted: Counted,
-    pub spent: u64,
+impl<'a> Cells for &'a mut [u64] {
+    fn cell(&self, at: usize) -> u64 {
+        self[at]
+    }
 }
 
 #[derive(Drop)]
-pub struct Holder<'a> {
-    pub spent: &'a mut u64,
+pub struct Table<C: Cells> {
+    cells: C,
+    spent: u64,
 }
 
-pub fn counts_one(spent: &mut u64) {
-    *spent = *spent + 1;
-}
-
-pub fn counts_get(at: u64, spent: &mut u64) -> u64 {
-    counts_one(spent);
-    at
-}
-
-pub fn counts_get_for_nothing(at: u64, spent: &mut u64) -> u64 {
-    at
-}
-
-pub fn counts_get_for_two(at: u64, spent: &mut u64) -> u64 {
-    counts_one(spent);
-    counts_one(spent);
-    at
-}
-
-pub fn counts_rightly(n: u64, spent: &mut u64) -> u64 {
-    let mut i: u64 = 0;
-    while i < n {
-        counts_get(i, &mut *spent);
-        i = i + 1;
+impl<C: Cells> Table<C> {
+    pub fn new(cells: C) -> Table<C> {
+        Table { cells, spent: 0 }
     }
-    counts_get(n, &mut *spent)
-}
 
-pub fn counts_on_another(n: u64, spent: &mut u64) -> u64 {
-    let mut other: u64 = 0;
-    counts_get(n, &mut other)
-}
-
-pub fn counts_back(n: u64, spent: &mut u64) -> u64 {
-    let x = counts_get(n, &mut *spent);
-    *spent = *spent - 1;
-    x
-}
-
-pub fn counts_by_its_count(n: u64, spent: &mut u64) -> u64 {
-    if *spent < 3 { counts_get(n, &mut *spent) } else { 0 }
-}
-
-pub fn counts_first(spent: &mut u64, n: u64) -> u64 {
-    n
-}
-
-pub fn counts_two(other: &mut u64, spent: &mut u64) -> u64 {
-    counts_get(1, other)
-}
-
-pub fn set_to_nothing(x: &mut u64) {
-    *x = 0;
-}
-
-pub fn counts_and_lends_elsewhere(n: u64, spent: &mut u64) -> u64 {
-    let x = counts_get(n, &mut *spent);
-    set_to_nothing(&mut *spent);
-    x
-}
-
-pub fn set_behind_to_nothing(x: Holder) {
-    *x.spent = 0;
-}
-
-pub fn counts_and_lends_in_a_struct(n: u64, spent: &mut u64) -> u64 {
-    let x = counts_get(n, &mut *spent);
-    set_behind_to_nothing(Holder { spent: &mut *spent });
-    x
-}
-
-pub fn counts_and_hands_it_out(spent: &mut u64) -> &mut u64 {
-    &mut *spent
-}
-
-pub fn counts_without_access(n: u64, spent: &mut u64) -> u64 {
-    counts_one(spent);
-    n
-}
-
-pub fn counts_apart(n: u64, spent: &mut u64) -> u64 {
-    let one = opens_rightly(n);
-    one.reply
-}
-
-pub fn counts_not(n: u64) -> u64 {
-    let mut spent: u64 = 0;
-    counts_get(n, &mut spent)
-}
-
-pub fn opens_rightly(n: u64) -> Counted {
-    if n == 0 {
-        return Counted { reply: 1, spent: 0 };
+    pub fn spent(&self) -> u64 {
+        self.spent
     }
-    let mut spent: u64 = 0;
-    let x = counts_get(n, &mut spent);
-    let y = counts_get(n, &mut spent);
-    if x < y {
-        return Counted { reply: x, spent: spent };
+
+    fn count(&mut self) {
+        self.spent += 1;
     }
-    Counted { reply: y, spent: spent }
+
+    pub fn get(&mut self, at: usize) -> u64 {
+        self.count();
+        self.cells.cell(at)
+    }
 }
 
-pub fn opens_nothing(n: u64) -> Counted {
-    Counted { reply: n, spent: 0 }
+impl<'a> Table<&'a mut [u64]> {
+    pub fn put(&mut self, at: usize, v: u64) {
+        self.count();
+        self.cells[at] = v;
+    }
 }
 
-pub fn opens_or_not(n: u64) -> Counted {
-    if n == 0 {
-        return opens_nothing(1);
-    }
-    let mut spent: u64 = 0;
-    let mut i: u64 = 0;
-    while i < n {
-        if counts_get(i, &mut spent) == 7 {
-            return Counted { reply: i, spent: spent };
+#[derive(Drop)]
+pub struct Book<C: Cells> {
+    table: Table<C>,
+    pub arena: u64,
+}
+
+pub type Written<'a> = Book<&'a mut [u64]>;
+
+pub type Shown<'a> = Book<&'a [u64]>;
+
+impl<C: Cells> Book<C> {
+    pub fn new(cells: C, arena: u64) -> Book<C> {
+        Book {
+            table: Table::new(cells),
+            arena,
         }
-        i = i + 1;
     }
-    Counted { reply: i, spent: spent }
-}
 
-pub fn opens_and_then_not(n: u64) -> Counted {
-    let mut spent: u64 = 0;
-    let x = counts_get(n, &mut spent);
-    if x == 7 {
-        return opens_nothing(1);
+    pub fn spent(&self) -> u64 {
+        self.table.spent()
     }
-    Counted { reply: x, spent: spent }
-}
 
-pub fn opens_nothing_and_tells_five(n: u64) -> Counted {
-    if n == 0 {
-        return Counted { reply: 1, spent: 5 };
+    pub fn get(&mut self, at: usize) -> u64 {
+        self.table.get(at)
     }
-    let mut spent: u64 = 0;
-    let x = counts_get(n, &mut spent);
-    Counted { reply: x, spent: spent }
 }
 
-pub fn opens_from_a_number(n: u64) -> Counted {
-    let mut spent = n;
-    let x = counts_get(n, &mut spent);
-    Counted { reply: x, spent: spent }
-}
-
-pub fn opens_around_another(n: u64) -> Counted {
-    let one = opens_rightly(n);
-    Counted { reply: one.reply, spent: 0 }
-}
-
-pub fn opens_after_another(n: u64) -> Counted {
-    let one = opens_rightly(n);
-    let mut spent: u64 = 0;
-    let x = counts_get(one.reply, &mut spent);
-    Counted { reply: x, spent: spent }
-}
-
-pub fn opens_through_another(n: u64) -> Counted {
-    let x = asks_once(n);
-    Counted { reply: x, spent: 0 }
-}
-
-pub fn opens_by_itself(n: u64) -> Counted {
-    let mut spent: u64 = 0;
-    let x = counts_get(n, &mut spent);
-    if x == 0 {
-        return Counted { reply: x, spent: spent };
+impl<'a> Book<&'a mut [u64]> {
+    pub fn put(&mut self, at: usize, v: u64) {
+        self.table.put(at, v);
     }
-    let one = opens_by_itself(n - 1);
-    Counted { reply: one.reply, spent: spent }
 }
 
-pub fn opens_in_a_box(n: u64) -> Boxed {
-    let mut spent: u64 = 0;
-    let x = counts_get(n, &mut spent);
-    Boxed { counted: Counted { reply: x, spent: 0 }, spent: spent }
+#[derive(Clone, Copy)]
+pub struct Counted<T> {
+    pub answer: Result<T, u64>,
+    pub spent: u64,
 }
 
-pub fn opens_and_empties_a_copy(n: u64) -> Counted {
-    let mut spent: u64 = 0;
-    let x = counts_get(n, &mut spent);
-    let mut copy = spent;
-    set_to_nothing(&mut copy);
-    Counted { reply: x, spent: copy }
-}
-
-pub fn opens_on_one_way(n: u64) -> Counted {
-    if n == 7 {
-        let mut spent: u64 = 0;
-        counts_get(n, &mut spent);
-    }
-    Counted { reply: n, spent: 0 }
-}
-
-pub fn opens_and_copies_on_one_way(n: u64) -> Counted {
-    let mut spent: u64 = 0;
-    let mut copy: u64 = 0;
-    let x = counts_get(n, &mut spent);
-    if x == 7 {
-        copy = spent;
-    }
-    Counted { reply: x, spent: copy }
-}
-
-pub fn opens_and_sets_a_copy(n: u64) -> Counted {
-    let mut spent: u64 = 0;
-    let x = counts_get(n, &mut spent);
-    let mut copy = spent;
-    copy = 3;
-    Counted { reply: x, spent: copy }
-}
-
-pub fn opens_and_calls_for_a_copy(n: u64) -> Counted {
-    let mut spent: u64 = 0;
-    let x = counts_get(n, &mut spent);
-    let mut copy = spent;
-    copy = counts_of(n);
-    Counted { reply: x, spent: copy }
-}
-
-pub fn opens_and_tells_none_of_the_rounds(n: u64) -> Counted {
-    let mut spent: u64 = 0;
-    let mut i: u64 = 0;
-    while i < n {
-        i = i + 1 + counts_get(n, &mut spent);
-    }
-    Counted { reply: i, spent: 0 }
-}
-
-pub fn opens_and_tells_of_before_the_rounds(n: u64) -> Counted {
-    let mut spent: u64 = 0;
-    let mut i = counts_get(n, &mut spent);
-    let before = spent;
-    while i < n {
-        i = i + 1 + counts_get(n, &mut spent);
-    }
-    Counted { reply: i, spent: before }
-}
-
-pub fn opens_and_leaves_a_round(n: u64) -> Counted {
-    let mut spent: u64 = 0;
-    let mut i: u64 = 0;
-    while i < n {
-        let before = spent;
-        if counts_get(i, &mut spent) == 7 {
-            return Counted { reply: i, spent: before };
+impl<T> Counted<T> {
+    pub fn refused(why: u64) -> Counted<T> {
+        Counted {
+            answer: Err(why),
+            spent: 0,
         }
-        i = i + 1;
     }
-    Counted { reply: i, spent: spent }
 }
 
-pub fn opens_and_tells_none(n: u64) -> Counted {
-    let mut spent: u64 = 0;
-    let x = counts_get(n, &mut spent);
-    Counted { reply: x, spent: 0 }
-}
-
-pub fn opens_and_tells_none_once(n: u64) -> Counted {
-    let mut spent: u64 = 0;
-    let x = counts_get(n, &mut spent);
-    if x == 7 {
-        return Counted { reply: x, spent: 0 };
-    }
-    Counted { reply: x, spent: spent }
-}
-
-pub fn opens_and_tells_early(n: u64) -> Counted {
-    let mut spent: u64 = 0;
-    let x = counts_get(n, &mut spent);
-    let before = spent;
-    let y = counts_get(x, &mut spent);
-    Counted { reply: y, spent: before }
-}
-
-pub fn opens_two(n: u64) -> Counted {
-    let mut spent: u64 = 0;
-    let mut other: u64 = 0;
-    let x = counts_get(n, &mut spent);
-    let y = counts_get(x, &mut other);
-    Counted { reply: y, spent: spent }
-}
-
-pub fn opens_again(n: u64) -> Counted {
-    let mut spent: u64 = 0;
-    let x = counts_get(n, &mut spent);
-    spent = 0;
-    let y = counts_get(x, &mut spent);
-    Counted { reply: y, spent: spent }
-}
-
-pub fn opens_each_round(n: u64) -> Counted {
-    let mut i: u64 = 0;
-    let mut spent: u64 = 0;
-    while i < n {
-        spent = 0;
-        i = i + 1 + counts_get(n, &mut spent);
-    }
-    Counted { reply: i, spent: spent }
-}
-
-pub fn opens_inside_each_round(n: u64) -> Counted {
-    let mut i: u64 = 0;
-    while i < n {
-        let mut spent: u64 = 0;
-        i = i + 1 + counts_get(n, &mut spent);
-    }
-    Counted { reply: i, spent: 0 }
-}
-
-pub fn opens_and_lends_elsewhere(n: u64) -> Counted {
-    let mut spent: u64 = 0;
-    let x = counts_get(n, &mut spent);
-    set_to_nothing(&mut spent);
-    Counted { reply: x, spent: spent }
-}
-
-pub fn adds_nothing_to(n: u64) -> Counted {
-    if n == 1 {
-        return opens_rightly(n);
-    }
-    opens_rightly(2)
-}
-
-pub fn adds_rightly(n: u64) -> Counted {
-    let mut spent: u64 = 0;
-    let mut i: u64 = 0;
-    while i < n {
-        let one = opens_rightly(i);
-        spent = spent + one.spent;
-        i = i + 1;
-    }
-    Counted { reply: i, spent: spent }
-}
-
-pub fn adds_sums(n: u64) -> Summed {
-    let mut spent: u64 = 0;
-    let one = adds_rightly(n);
-    spent = spent + one.spent;
-    if one.reply == 7 {
-        return Summed { last: 7, spent: spent };
-    }
-    let two = adds_by_itself(n);
-    spent = spent + two.spent;
-    Summed { last: two.last, spent: spent }
-}
-
-pub fn adds_by_itself(n: u64) -> Summed {
-    let mut spent: u64 = 0;
-    let one = opens_rightly(n);
-    spent = spent + one.spent;
-    if 0 < n {
-        let rest = adds_by_itself(n - 1);
-        spent = spent + rest.spent;
-    }
-    Summed { last: one.reply, spent: spent }
-}
-
-pub fn adds_by_itself_for_nothing(n: u64) -> Summed {
-    let mut spent: u64 = 0;
-    let one = opens_rightly(n);
-    spent = spent + one.spent;
-    if 0 < n {
-        adds_by_itself_for_nothing(n - 1);
-    }
-    Summed { last: one.reply, spent: spent }
-}
-
-pub fn adds_no_sum(n: u64) -> Counted {
-    let one = adds_sums(n);
-    Counted { reply: one.last, spent: 0 }
-}
-
-pub fn adds_no_box(n: u64) -> Counted {
-    let one = opens_in_a_box(n);
-    Counted { reply: one.counted.reply, spent: 0 }
-}
-
-pub fn adds_through_another(n: u64) -> Counted {
-    let x = asks_once(n);
-    Counted { reply: x, spent: 0 }
-}
-
-pub fn adds_and_returns_none(n: u64) -> u64 {
-    let mut spent: u64 = 0;
-    let one = opens_rightly(n);
-    spent = spent + one.spent;
-    one.reply
-}
-
-pub fn adds_and_leaves_a_round(n: u64) -> Counted {
-    let mut spent: u64 = 0;
-    let mut i: u64 = 0;
-    while i < n {
-        let one = opens_rightly(i);
-        if one.reply == 7 {
-            return Counted { reply: i, spent: spent };
+impl Counted<u64> {
+    pub fn number(self) -> u64 {
+        match self.answer {
+            Ok(n) => n,
+            Err(why) => why,
         }
-        spent = spent + one.spent;
-        i = i + 1;
     }
-    Counted { reply: i, spent: spent }
-}
 
-pub fn adds_not_all_rounds(n: u64) -> Counted {
-    let mut spent: u64 = 0;
-    let mut i: u64 = 0;
-    while i < n {
-        i = i + 1;
-        let one = opens_rightly(i);
-        if one.reply == 7 {
-            continue;
-        }
-        spent = spent + one.spent;
-    }
-    Counted { reply: i, spent: spent }
-}
-
-pub fn adds_what_may_be_none(n: u64) -> Counted {
-    let mut spent: u64 = 0;
-    let mut one = Counted { reply: 0, spent: 100 };
-    if n == 7 {
-        one = opens_rightly(n);
-    }
-    spent = spent + one.spent;
-    Counted { reply: 0, spent: spent }
-}
-
-pub fn adds_nothing_for_one(n: u64) -> Counted {
-    let mut spent: u64 = 0;
-    let mut one = opens_rightly(n);
-    one.spent = 0;
-    spent = spent + one.spent;
-    Counted { reply: one.reply, spent: spent }
-}
-
-pub fn adds_two_for_one(n: u64) -> Counted {
-    let mut spent: u64 = 0;
-    let mut one = opens_rightly(n);
-    let two = opens_rightly(n);
-    one = two;
-    spent = spent + one.spent;
-    spent = spent + two.spent;
-    Counted { reply: one.reply, spent: spent }
-}
-
-pub fn adds_over_one(n: u64) -> Counted {
-    let mut spent: u64 = 0;
-    let mut one = opens_rightly(n);
-    one = opens_rightly(n);
-    spent = spent + one.spent;
-    Counted { reply: one.reply, spent: spent }
-}
-
-pub fn adds_what_a_call_says(n: u64) -> Counted {
-    let mut spent: u64 = 0;
-    let one = opens_rightly(n);
-    spent = spent + one.spent;
-    spent = counts_of(spent);
-    Counted { reply: one.reply, spent: spent }
-}
-
-pub fn adds_and_lends_elsewhere(n: u64) -> Counted {
-    let mut spent: u64 = 0;
-    let one = opens_rightly(n);
-    spent = spent + one.spent;
-    set_to_nothing(&mut spent);
-    Counted { reply: one.reply, spent: spent }
-}
-
-pub fn adds_and_empties_a_copy(n: u64) -> Counted {
-    let mut spent: u64 = 0;
-    let one = opens_rightly(n);
-    spent = spent + one.spent;
-    let mut copy = spent;
-    set_to_nothing(&mut copy);
-    Counted { reply: one.reply, spent: copy }
-}
-
-impl Counted {
     pub fn set_to_nothing(&mut self) {
         self.spent = 0;
     }
 }
 
-pub fn adds_and_lends_a_reply(n: u64) -> Counted {
-    let mut spent: u64 = 0;
-    let mut one = opens_rightly(n);
-    one.set_to_nothing();
-    spent = spent + one.spent;
-    Counted { reply: one.reply, spent: spent }
+// ---- tables and books that are not right
+
+#[derive(Drop)]
+pub struct Lax<C: Cells> {
+    cells: C,
+    spent: u64,
 }
 
-pub fn adds_no_more(n: u64) -> Counted {
-    let mut spent: u64 = 0;
-    let mut i: u64 = 0;
-    while i < n {
-        let one = opens_rightly(i);
-        i = i + 1;
-        spent = spent + one.spent;
-        let two = opens_rightly(one.reply);
+impl<C: Cells> Lax<C> {
+    pub fn new(cells: C) -> Lax<C> {
+        Lax { cells, spent: 1 }
     }
-    Counted { reply: i, spent: spent }
-}
 
-pub fn adds_some(n: u64) -> Counted {
-    let mut spent: u64 = 0;
-    let one = opens_rightly(n);
-    if one.reply == 3 {
-        spent = spent + one.spent;
+    pub fn spent(&self) -> u64 {
+        self.spent / 2
     }
-    Counted { reply: 0, spent: spent }
-}
 
-pub fn adds_the_first_twice(n: u64) -> Counted {
-    let mut spent: u64 = 0;
-    let one = opens_rightly(n);
-    spent = spent + one.spent;
-    let two = opens_rightly(n);
-    spent = spent + one.spent;
-    Counted { reply: two.reply, spent: spent }
-}
-
-pub fn adds_and_tells_none(n: u64) -> Counted {
-    let mut spent: u64 = 0;
-    let one = opens_rightly(n);
-    spent = spent + one.spent;
-    Counted { reply: n, spent: 0 }
-}
-
-pub fn adds_after_one(n: u64) -> Counted {
-    let one = opens_rightly(n);
-    opens_rightly(one.reply)
-}
-
-pub fn asks_once(n: u64) -> u64 {
-    if n < 3 {
-        return 0;
+    fn count(&mut self) {
+        self.spent += 2;
     }
-    let one = opens_rightly(n);
-    one.reply
-}
 
-pub fn asks_twice(n: u64) -> u64 {
-    let one = opens_rightly(n);
-    let two = opens_rightly(one.reply);
-    two.reply
-}
-
-pub fn asks_each_round(n: u64) -> u64 {
-    let mut i: u64 = 0;
-    while i < n {
-        let one = opens_rightly(i);
-        i = i + 1 + one.reply;
+    pub fn get(&mut self, at: usize) -> u64 {
+        self.count();
+        self.count();
+        self.cells.cell(at)
     }
-    i
+
+    pub fn peek(&self, at: usize) -> u64 {
+        self.cells.cell(at)
+    }
+
+    pub fn reset(&mut self) {
+        self.spent = 0;
+    }
+
+    pub fn address(&mut self) -> &mut u64 {
+        &mut self.spent
+    }
+
+    pub fn begin(&mut self, cells: C) {
+        *self = Lax { cells, spent: 0 };
+    }
+
+    pub fn take_over(&mut self, other: Lax<C>) {
+        *self = other;
+    }
 }
 
-pub fn asks_once_through_another(n: u64) -> u64 {
-    asks_once(n) + counts_of(n)
+impl<'a> Lax<&'a mut [u64]> {
+    pub fn put(&mut self, at: usize, v: u64) {
+        self.cells[at] = v;
+    }
+}
+
+#[derive(Drop)]
+pub struct Slack<C: Cells> {
+    cells: C,
+    spent: u64,
+}
+
+impl<C: Cells> Slack<C> {
+    pub fn spent(&self) -> u64 {
+        7
+    }
+
+    fn count(&mut self) {
+        if self.spent < 7 {
+            self.spent += 1;
+        }
+    }
+
+    pub fn get(&mut self, at: usize) -> u64 {
+        self.count();
+        self.cells.cell(at) / 2
+    }
+}
+
+impl<'a> Slack<&'a mut [u64]> {
+    pub fn put(&mut self, at: usize, v: u64) {
+        self.count();
+        self.spent = 0;
+        self.cells[at] = v;
+    }
+}
+
+#[derive(Drop)]
+pub struct Idle<C: Cells> {
+    cells: C,
+    spent: u64,
+}
+
+impl<C: Cells> Idle<C> {
+    fn count(&mut self) {
+        self.spent += 1;
+    }
+
+    pub fn get(&mut self, at: usize) -> u64 {
+        self.count();
+        self.cells.cell(0)
+    }
+}
+
+impl<'a> Idle<&'a mut [u64]> {
+    pub fn put(&mut self, at: usize, v: u64) {
+        if at < 3 {
+            self.count();
+            self.cells[at] = v;
+        }
+    }
+}
+
+#[derive(Drop)]
+pub struct Loose<C: Cells> {
+    table: Table<C>,
+    pub arena: u64,
+}
+
+impl<C: Cells> Loose<C> {
+    pub fn new(cells: C, arena: u64) -> Loose<C> {
+        let mut table = Table::new(cells);
+        table.get(0);
+        Loose { table, arena }
+    }
+
+    pub fn spent(&self) -> u64 {
+        self.table.spent() / 2
+    }
+
+    pub fn tell(&self) -> u64 {
+        self.table.spent
+    }
+}
+
+// ---- functions that count
+
+pub fn counts_rightly<C: Cells>(book: &mut Book<C>, n: u64) -> u64 {
+    let mut all = book.arena;
+    for i in 0..n {
+        all ^= book.get(i as usize);
+    }
+    if all < n { counts_in_a_table(&mut book.table) } else { all }
+}
+
+pub fn counts_in_a_table<C: Cells>(table: &mut Table<C>) -> u64 {
+    let own = table;
+    own.get(2)
+}
+
+pub fn counts_and_writes(book: &mut Written<'_>, n: u64) -> Option<u64> {
+    let last = (0..n).find(|i| *i == 7)?;
+    book.put(1, last);
+    Some(counts_rightly(book, n))
+}
+
+pub fn counts_by_its_count(book: &mut Shown<'_>) -> u64 {
+    if book.spent() < 3 { book.get(0) } else { 0 }
+}
+
+pub fn counts_by_its_tables_count(book: &mut Shown<'_>) -> u64 {
+    if book.table.spent() < 3 { book.get(0) } else { 0 }
+}
+
+pub fn counts_without_access(book: &mut Shown<'_>) {
+    book.table.count();
+}
+
+pub fn counts_on_another(book: &mut Shown<'_>, t: &[u64]) -> u64 {
+    let mut other = Book::new(t, book.arena);
+    other.get(0)
+}
+
+pub fn counts_on_what_is_given(mut book: Shown<'_>) -> u64 {
+    book.get(0)
+}
+
+pub fn counts_two(book: &mut Shown<'_>, other: &mut Shown<'_>) -> u64 {
+    book.get(0) ^ other.get(0)
+}
+
+pub fn counts_back(book: &mut Shown<'_>) -> u64 {
+    book.table.spent = 0;
+    book.get(0)
+}
+
+pub fn counts_in_another_arena(book: &mut Shown<'_>) -> u64 {
+    book.arena = 3;
+    book.get(0)
+}
+
+pub fn counts_and_swaps<'a>(book: &mut Shown<'a>, other: &mut Shown<'a>) {
+    mem::swap(book, other);
+}
+
+pub fn counts_and_swaps_tables<'a>(book: &mut Shown<'a>, other: &mut Shown<'a>) {
+    mem::swap(&mut book.table, &mut other.table);
+}
+
+fn taken_for_any<T>(_x: &mut T) {}
+
+pub fn counts_and_lends_to_any(book: &mut Shown<'_>) -> u64 {
+    taken_for_any(&mut *book);
+    book.get(0)
+}
+
+pub fn counts_and_becomes<'a>(book: &mut Shown<'a>, other: Shown<'a>) {
+    *book = other;
+}
+
+pub fn counts_in_a_closure(book: &mut Shown<'_>, n: u64) -> Option<u64> {
+    (0..n).find(|i| book.get(*i as usize) == 0)
+}
+
+pub fn counts_in_a_pair(pair: (&mut Shown<'_>, u64)) -> u64 {
+    pair.0.get(0)
+}
+
+pub fn counts_in_an_option(book: Option<&mut Shown<'_>>) -> u64 {
+    match book {
+        Some(book) => book.get(0),
+        None => 0,
+    }
+}
+
+#[derive(Drop)]
+pub struct Holder<'a, 'b> {
+    book: &'a mut Shown<'b>,
+}
+
+pub fn counts_in_a_struct(holder: Holder<'_, '_>) -> u64 {
+    let own = holder;
+    own.book.get(0)
+}
+
+pub fn counts_and_hands_it_out<'a, 'b>(book: &'a mut Shown<'b>) -> &'a mut Shown<'b> {
+    book
+}
+
+pub fn counts_apart(t: &mut [u64], n: u64) -> u64 {
+    let one = opens_rightly(t, n);
+    one.number()
+}
+
+pub fn counts_a_cell_by_its_name(t: &[u64]) -> u64 {
+    t.cell(3)
+}
+
+pub fn counts_a_cell_through_a_bound<C: Cells>(cells: &C) -> u64 {
+    cells.cell(3)
+}
+
+pub fn counts_and_hands_out_a_reply(book: &mut Shown<'_>) -> Counted<u64> {
+    Counted {
+        answer: Ok(book.get(0)),
+        spent: 1,
+    }
+}
+
+// ---- requests
+
+pub fn opens_rightly(t: &mut [u64], n: u64) -> Counted<u64> {
+    if n == 0 {
+        return Counted::refused(1);
+    }
+    if n == 1 {
+        return Counted {
+            answer: Ok(1),
+            spent: 0,
+        };
+    }
+    let mut book = Book::new(&mut t[..3], n);
+    let found = counts_and_writes(&mut book, n);
+    if let Some(x) = found {
+        return Counted {
+            answer: Ok(x),
+            spent: book.spent(),
+        };
+    }
+    let arena = book.arena;
+    let y = counts_rightly(&mut book, arena);
+    Counted {
+        answer: Ok(y),
+        spent: book.spent(),
+    }
+}
+
+pub fn opens_by_a_match(t: &[u64], admitted: Result<u64, u64>) -> Counted<()> {
+    match admitted {
+        Ok(arena) => {
+            let mut book = Book::new(&t[..3], arena);
+            counts_rightly(&mut book, 3);
+            Counted {
+                answer: Ok(()),
+                spent: book.spent(),
+            }
+        }
+        Err(why) => Counted::refused(why),
+    }
+}
+
+pub fn opens_nothing(n: u64) -> Counted<u64> {
+    Counted::refused(n)
+}
+
+pub fn opens_nothing_and_tells_five(t: &[u64], n: u64) -> Counted<u64> {
+    if n == 0 {
+        return Counted {
+            answer: Ok(0),
+            spent: 5,
+        };
+    }
+    let mut book = Book::new(t, n);
+    let x = book.get(0);
+    Counted {
+        answer: Ok(x),
+        spent: book.spent(),
+    }
+}
+
+pub fn opens_and_then_refuses(t: &[u64], n: u64) -> Counted<u64> {
+    let mut book = Book::new(t, n);
+    let x = book.get(0);
+    if x == 7 {
+        return Counted::refused(7);
+    }
+    Counted {
+        answer: Ok(x),
+        spent: book.spent(),
+    }
+}
+
+pub fn opens_and_tells_none(t: &[u64], n: u64) -> Counted<u64> {
+    let mut book = Book::new(t, n);
+    let x = book.get(0);
+    Counted {
+        answer: Ok(x),
+        spent: 0,
+    }
+}
+
+pub fn opens_and_tells_early(t: &[u64], n: u64) -> Counted<u64> {
+    let mut book = Book::new(t, n);
+    let x = book.get(0);
+    let before = book.spent();
+    let y = book.get(1);
+    Counted {
+        answer: Ok(x ^ y),
+        spent: before,
+    }
+}
+
+pub fn opens_and_tells_half(t: &[u64], n: u64) -> Counted<u64> {
+    let mut book = Book::new(t, n);
+    let x = book.get(0);
+    Counted {
+        answer: Ok(x),
+        spent: book.spent() / 2,
+    }
+}
+
+pub fn opens_and_sets_what_it_tells(t: &[u64], n: u64) -> Counted<u64> {
+    let mut book = Book::new(t, n);
+    let x = book.get(0);
+    let mut spent = book.spent();
+    if x == 7 {
+        spent = 3;
+    }
+    Counted {
+        answer: Ok(x),
+        spent,
+    }
+}
+
+fn set_to_nothing(x: &mut u64) {
+    *x = 0;
+}
+
+pub fn opens_and_lends_what_it_tells(t: &[u64], n: u64) -> Counted<u64> {
+    let mut book = Book::new(t, n);
+    let x = book.get(0);
+    let mut spent = book.spent();
+    set_to_nothing(&mut spent);
+    Counted {
+        answer: Ok(x),
+        spent,
+    }
+}
+
+pub fn opens_and_sets_its_reply(t: &[u64], n: u64) -> Counted<u64> {
+    let mut book = Book::new(t, n);
+    let x = book.get(0);
+    let mut counted = Counted {
+        answer: Ok(x),
+        spent: book.spent(),
+    };
+    counted.spent = 0;
+    counted
+}
+
+pub fn opens_two(t: &[u64], n: u64) -> Counted<u64> {
+    let mut book = Book::new(t, n);
+    let x = book.get(0);
+    let mut other = Book::new(t, x);
+    let y = other.get(1);
+    Counted {
+        answer: Ok(y),
+        spent: book.spent(),
+    }
+}
+
+pub fn opens_again(t: &[u64], n: u64) -> Counted<u64> {
+    let mut book = Book::new(t, n);
+    let x = book.get(0);
+    book = Book::new(t, x);
+    Counted {
+        answer: Ok(x),
+        spent: book.spent(),
+    }
+}
+
+pub fn opens_each_round(t: &[u64], n: u64) -> Counted<u64> {
+    let mut all = 0;
+    for _i in 0..n {
+        let mut book = Book::new(t, n);
+        all ^= book.get(0);
+    }
+    Counted {
+        answer: Ok(all),
+        spent: 0,
+    }
+}
+
+pub fn opens_around_another(t: &mut [u64], n: u64) -> Counted<u64> {
+    let one = opens_rightly(t, n);
+    let mut book = Book::new(t, n);
+    Counted {
+        answer: one.answer,
+        spent: book.spent(),
+    }
+}
+
+pub fn opens_another(t: &mut [u64], n: u64) -> Counted<u64> {
+    opens_rightly(t, n)
+}
+
+#[derive(Clone, Copy)]
+pub struct Boxed {
+    pub counted: Counted<u64>,
+    pub spent: u64,
+}
+
+pub fn opens_in_a_box(t: &[u64], n: u64) -> Boxed {
+    let mut book = Book::new(t, n);
+    let x = book.get(0);
+    Boxed {
+        counted: Counted::refused(x),
+        spent: book.spent(),
+    }
+}
+
+pub fn opens_and_swaps(t: &[u64], n: u64) -> Counted<u64> {
+    let mut book = Book::new(t, n);
+    let x = book.get(0);
+    let other = mem::replace(&mut book, Book::new(t, n));
+    Counted {
+        answer: Ok(x),
+        spent: book.spent(),
+    }
+}
+
+pub fn opens_by_hand(t: &[u64], n: u64) -> Counted<u64> {
+    let mut book = Book {
+        table: Table::new(t),
+        arena: n,
+    };
+    let x = book.get(0);
+    Counted {
+        answer: Ok(x),
+        spent: book.spent(),
+    }
+}
+
+pub fn opens_and_reads_its_table(t: &[u64], n: u64) -> Counted<u64> {
+    let mut book = Book::new(t, n);
+    let x = book.get(0);
+    Counted {
+        answer: Ok(x),
+        spent: book.table.spent,
+    }
+}
+
+pub fn opens_and_reads_its_tables_count(t: &[u64], n: u64) -> Counted<u64> {
+    let mut book = Book::new(t, n);
+    let x = book.get(0);
+    Counted {
+        answer: Ok(x),
+        spent: book.table.spent(),
+    }
+}
+
+pub fn opens_in_a_closure(t: &[u64], n: u64) -> Counted<u64> {
+    let mut book = Book::new(t, n);
+    let found = (0..n).find(|i| book.get(*i as usize) == 0);
+    Counted {
+        answer: found.ok_or(1),
+        spent: book.spent(),
+    }
+}
+
+#[derive(Drop)]
+pub struct Fake {
+    x: u64,
+}
+
+impl Cells for Fake {
+    fn cell(&self, _at: usize) -> u64 {
+        self.x
+    }
+}
+
+pub fn opens_a_fake(t: &[u64], n: u64) -> Counted<u64> {
+    let mut book = Book::new(Fake { x: n }, n);
+    let x = book.get(0);
+    Counted {
+        answer: Ok(x),
+        spent: book.spent(),
+    }
+}
+
+// ---- functions that make a reply with no count
+
+pub fn tells_five(n: u64) -> Counted<u64> {
+    Counted {
+        answer: Ok(n),
+        spent: 5,
+    }
+}
+
+pub fn tells_of_a_book(t: &[u64], n: u64) -> Counted<u64> {
+    let book = Book::new(t, n);
+    Counted::refused(1)
+}
+
+// ---- functions that are handed replies
+
+pub fn adds_nothing_to(t: &mut [u64], n: u64) -> Counted<u64> {
+    if n == 1 {
+        return opens_rightly(t, n);
+    }
+    let counted = opens_rightly(t, 2);
+    counted
+}
+
+pub fn adds_to_a_pair(t: &mut [u64], n: u64) -> (u64, u64) {
+    if n == 0 {
+        return (7, 0);
+    }
+    match n {
+        1 => {
+            let counted = opens_rightly(t, n);
+            (counted.number(), counted.spent)
+        }
+        2 => adds_to_what_is_given(opens_rightly(t, n)),
+        _ => adds_to_what_is_given(adds_nothing_to(t, n)),
+    }
+}
+
+fn adds_to_what_is_given(counted: Counted<u64>) -> (u64, u64) {
+    (counted.number(), counted.spent)
+}
+
+pub fn adds_rightly(t: &mut [u64], n: u64) -> Option<u64> {
+    if n == 7 {
+        return None;
+    }
+    let mut spent = 0;
+    for i in 0..n {
+        let counted = opens_rightly(t, i);
+        set_to_nothing(&mut t[0]);
+        spent += counted.spent;
+    }
+    Some(spent)
+}
+
+pub fn adds_pairs(t: &mut [u64], n: u64) -> Option<u64> {
+    let mut all = 0;
+    let mut last = 0;
+    for i in 0..n {
+        let (number, spent) = adds_to_a_pair(t, i);
+        last = number;
+        all += spent;
+    }
+    if last == 3 {
+        let (_, spent) = adds_to_a_pair(t, n);
+        all += spent;
+    }
+    Some(all)
+}
+
+pub fn adds_to_a_reply(t: &mut [u64], n: u64) -> Counted<u64> {
+    let mut spent = 0;
+    let counted = opens_rightly(t, n);
+    spent += counted.spent;
+    Counted {
+        answer: counted.answer,
+        spent,
+    }
+}
+
+pub fn adds_by_itself(t: &mut [u64], n: u64) -> Counted<u64> {
+    let mut spent = 0;
+    let one = opens_rightly(t, n);
+    spent += one.spent;
+    if 0 < n {
+        let rest = adds_by_itself(t, n / 2);
+        spent += rest.spent;
+    }
+    Counted {
+        answer: one.answer,
+        spent,
+    }
+}
+
+pub fn adds_by_itself_for_nothing(t: &mut [u64], n: u64) -> Counted<u64> {
+    let mut spent = 0;
+    let one = opens_rightly(t, n);
+    spent += one.spent;
+    if 0 < n {
+        adds_by_itself_for_nothing(t, n / 2);
+    }
+    Counted {
+        answer: one.answer,
+        spent,
+    }
+}
+
+pub fn adds_to_a_pair_of_none(t: &mut [u64], n: u64) -> (u64, u64) {
+    let counted = opens_rightly(t, n);
+    (counted.number(), 0)
+}
+
+pub fn adds_to_a_pair_of_numbers(t: &mut [u64], n: u64) -> (u64, u64) {
+    let counted = opens_rightly(t, n);
+    (counted.spent, counted.number())
+}
+
+pub fn adds_to_a_pair_the_first(t: &mut [u64], n: u64) -> (u64, u64) {
+    let one = opens_rightly(t, n);
+    let two = opens_rightly(t, n);
+    (two.number(), one.spent)
+}
+
+fn adds_nothing_to_what_is_given(counted: Counted<u64>) -> (u64, u64) {
+    (counted.number(), 0)
+}
+
+pub fn adds_to_what_is_made(t: &mut [u64], n: u64) -> (u64, u64) {
+    let counted = opens_rightly(t, n);
+    adds_to_what_is_given(Counted {
+        answer: counted.answer,
+        spent: 0,
+    })
+}
+
+pub fn adds_what_is_given_once(t: &mut [u64], n: u64) -> Option<u64> {
+    let mut spent = 0;
+    let counted = opens_rightly(t, n);
+    let one = adds_to_what_is_given(counted);
+    let two = adds_to_what_is_given(counted);
+    spent += one.1;
+    Some(spent)
+}
+
+pub fn adds_and_then_none(t: &mut [u64], n: u64) -> Option<u64> {
+    let mut spent = 0;
+    let counted = opens_rightly(t, n);
+    spent += counted.spent;
+    if counted.number() == 7 {
+        return None;
+    }
+    Some(spent)
+}
+
+pub fn adds_to_an_option_of_an_option(t: &mut [u64], n: u64) -> Option<u64> {
+    adds_rightly(t, n)
+}
+
+pub fn adds_no_sum(t: &mut [u64], n: u64) -> Counted<u64> {
+    let one = adds_to_a_reply(t, n);
+    Counted {
+        answer: one.answer,
+        spent: 0,
+    }
+}
+
+pub fn adds_no_box(t: &mut [u64], n: u64) -> Counted<u64> {
+    let one = opens_in_a_box(t, n);
+    Counted {
+        answer: one.counted.answer,
+        spent: 0,
+    }
+}
+
+pub fn adds_through_another(t: &mut [u64], n: u64) -> Counted<u64> {
+    let x = asks_once(t, n);
+    Counted {
+        answer: Ok(x),
+        spent: 0,
+    }
+}
+
+pub fn adds_and_returns_none(t: &mut [u64], n: u64) -> u64 {
+    let mut spent = 0;
+    let one = opens_rightly(t, n);
+    spent += one.spent;
+    one.number()
+}
+
+pub fn adds_and_leaves_a_round(t: &mut [u64], n: u64) -> Option<u64> {
+    let mut spent = 0;
+    for i in 0..n {
+        let one = opens_rightly(t, i);
+        if one.number() == 7 {
+            return Some(spent);
+        }
+        spent += one.spent;
+    }
+    Some(spent)
+}
+
+pub fn adds_not_all_rounds(t: &mut [u64], n: u64) -> Option<u64> {
+    let mut spent = 0;
+    for i in 0..n {
+        let one = opens_rightly(t, i);
+        if one.number() == 7 {
+            continue;
+        }
+        spent += one.spent;
+    }
+    Some(spent)
+}
+
+pub fn adds_what_may_be_none(t: &mut [u64], n: u64) -> Option<u64> {
+    let mut spent = 0;
+    let mut one = Counted {
+        answer: Ok(0),
+        spent: 100,
+    };
+    if n == 7 {
+        one = opens_rightly(t, n);
+    }
+    spent += one.spent;
+    Some(spent)
+}
+
+pub fn adds_nothing_for_one(t: &mut [u64], n: u64) -> Option<u64> {
+    let mut spent = 0;
+    let mut one = opens_rightly(t, n);
+    one.spent = 0;
+    spent += one.spent;
+    Some(spent)
+}
+
+pub fn adds_two_for_one(t: &mut [u64], n: u64) -> Option<u64> {
+    let mut spent = 0;
+    let mut one = opens_rightly(t, n);
+    let two = opens_rightly(t, n);
+    one = two;
+    spent += one.spent;
+    spent += two.spent;
+    Some(spent)
+}
+
+pub fn adds_over_one(t: &mut [u64], n: u64) -> Option<u64> {
+    let mut spent = 0;
+    let mut one = opens_rightly(t, n);
+    one = opens_rightly(t, n);
+    spent += one.spent;
+    Some(spent)
 }
 
 pub fn counts_of(n: u64) -> u64 {
     n
 }
 
-pub fn asks_twice_through_another(n: u64) -> u64 {
-    let x = asks_once(n);
-    asks_once(x)
+pub fn adds_what_a_call_says(t: &mut [u64], n: u64) -> Option<u64> {
+    let mut spent = 0;
+    let one = opens_rightly(t, n);
+    spent += one.spent;
+    spent = counts_of(spent);
+    Some(spent)
 }
 
-pub fn asks_each_round_through_another(n: u64) -> u64 {
-    let mut i: u64 = 0;
-    while i < n {
-        i = i + 1 + asks_once_through_another(i);
+pub fn adds_and_lends_its_sum(t: &mut [u64], n: u64) -> Option<u64> {
+    let mut spent = 0;
+    let one = opens_rightly(t, n);
+    spent += one.spent;
+    set_to_nothing(&mut spent);
+    Some(spent)
+}
+
+pub fn adds_and_empties_a_copy(t: &mut [u64], n: u64) -> Option<u64> {
+    let mut spent = 0;
+    let one = opens_rightly(t, n);
+    spent += one.spent;
+    let mut copy = spent;
+    set_to_nothing(&mut copy);
+    Some(copy)
+}
+
+pub fn adds_and_lends_a_reply(t: &mut [u64], n: u64) -> Option<u64> {
+    let mut spent = 0;
+    let mut one = opens_rightly(t, n);
+    one.set_to_nothing();
+    spent += one.spent;
+    Some(spent)
+}
+
+pub fn adds_no_more(t: &mut [u64], n: u64) -> Option<u64> {
+    let mut spent = 0;
+    for i in 0..n {
+        let one = opens_rightly(t, i);
+        spent += one.spent;
+        let two = opens_rightly(t, i);
     }
-    i
+    Some(spent)
 }
 
-pub fn asks_by_itself(n: u64) -> u64 {
+pub fn adds_some(t: &mut [u64], n: u64) -> Option<u64> {
+    let mut spent = 0;
+    let one = opens_rightly(t, n);
+    if one.number() == 3 {
+        spent += one.spent;
+    }
+    Some(spent)
+}
+
+pub fn adds_the_first_twice(t: &mut [u64], n: u64) -> Option<u64> {
+    let mut spent = 0;
+    let one = opens_rightly(t, n);
+    spent += one.spent;
+    let two = opens_rightly(t, n);
+    spent += one.spent;
+    Some(spent)
+}
+
+pub fn adds_from_a_number(t: &mut [u64], n: u64) -> Option<u64> {
+    let mut spent = n;
+    let one = opens_rightly(t, n);
+    spent += one.spent;
+    Some(spent)
+}
+
+pub fn adds_again(t: &mut [u64], n: u64) -> Option<u64> {
+    let mut spent = 0;
+    let one = opens_rightly(t, n);
+    spent += one.spent;
+    spent = 0;
+    Some(spent)
+}
+
+pub fn adds_and_tells_none(t: &mut [u64], n: u64) -> Option<u64> {
+    let mut spent = 0;
+    let one = opens_rightly(t, n);
+    spent += one.spent;
+    Some(0)
+}
+
+pub fn adds_two_sums(t: &mut [u64], n: u64) -> Option<u64> {
+    let mut spent = 0;
+    let mut other = 0;
+    let one = opens_rightly(t, n);
+    spent += one.spent;
+    let two = opens_rightly(t, n);
+    other += two.spent;
+    Some(spent)
+}
+
+pub fn adds_after_one(t: &mut [u64], n: u64) -> Counted<u64> {
+    let one = opens_rightly(t, n);
+    opens_rightly(t, one.number())
+}
+
+pub fn adds_in_a_closure(t: &mut [u64], n: u64) -> Option<u64> {
+    (0..n).find(|i| opens_rightly(t, *i).spent == 7)
+}
+
+// ---- functions that ask
+
+pub fn asks_once(t: &mut [u64], n: u64) -> u64 {
+    if n < 3 {
+        return 0;
+    }
+    opens_rightly(t, n).number()
+}
+
+pub fn asks_twice(t: &mut [u64], n: u64) -> u64 {
+    let one = opens_rightly(t, n);
+    let two = opens_rightly(t, one.number());
+    two.number()
+}
+
+pub fn asks_each_round(t: &mut [u64], n: u64) -> u64 {
+    let mut all = 0;
+    for i in 0..n {
+        all ^= opens_rightly(t, i).number();
+    }
+    all
+}
+
+pub fn asks_once_through_another(t: &mut [u64], n: u64) -> u64 {
+    asks_once(t, n) ^ counts_of(n)
+}
+
+pub fn asks_twice_through_another(t: &mut [u64], n: u64) -> u64 {
+    let x = asks_once(t, n);
+    asks_once(t, x)
+}
+
+pub fn asks_each_round_through_another(t: &mut [u64], n: u64) -> u64 {
+    let mut all = 0;
+    for i in 0..n {
+        all ^= asks_once_through_another(t, i);
+    }
+    all
+}
+
+fn asks_of(t: &mut [u64]) -> u64 {
+    opens_rightly(t, 3).number()
+}
+
+pub fn asks_by_a_value(t: Option<&mut [u64]>) -> Option<u64> {
+    t.map(asks_of)
+}
+
+pub fn asks_by_a_pointer(n: u64) -> u64 {
+    let f: fn(u64) -> u64 = counts_of;
+    f(n)
+}
+
+pub fn asks_by_itself(t: &mut [u64], n: u64) -> u64 {
     if n == 0 {
         return 0;
     }
-    let one = opens_rightly(n);
-    asks_by_itself(n - 1) + one.reply
+    let one = opens_rightly(t, n);
+    asks_by_itself(t, n / 2) ^ one.number()
 }
 
-pub fn asks_for_a_sum(n: u64) -> u64 {
-    let one = adds_sums(n);
-    one.last
+pub fn asks_for_a_sum(t: &mut [u64], n: u64) -> bool {
+    adds_rightly(t, n).is_some()
 }
 
-pub fn asks_and_hands_it_on(n: u64) -> Counted {
-    opens_rightly(n)
+pub fn asks_and_hands_it_on(t: &mut [u64], n: u64) -> Counted<u64> {
+    opens_rightly(t, n)
 }
 
-pub fn free_to_ask(n: u64) -> bool {
-    let one = opens_rightly(n);
-    let two = adds_sums(one.reply);
-    two.last == 7
+pub fn asks_a_book(book: &mut Shown<'_>) -> u64 {
+    book.arena
 }
 
-pub fn free_and_hands_it_on(n: u64) -> Counted {
-    opens_rightly(n)
+pub fn free_to_ask(t: &mut [u64], n: u64) -> bool {
+    let one = opens_rightly(t, n);
+    adds_rightly(t, one.number()).is_some()
 }
 
-pub fn helps(n: u64) -> u64 {
-    asks_once(n)
+pub fn free_and_hands_it_on(t: &mut [u64], n: u64) -> Counted<u64> {
+    opens_rightly(t, n)
+}
+
+pub fn helps(t: &mut [u64], n: u64) -> u64 {
+    asks_once(t, n)
 }
 
 // ---- calls that do not name a function
 
 pub trait Other {
     fn tell(&self, n: u64) -> u64;
-    fn add(&self, spent: &mut u64);
-    fn hold(&self, holder: Holder<'_>);
+    fn hold(&self, book: &mut Shown<'_>);
 }
 
 pub fn free_and_calls_through_a_bound<T: Other>(other: &T, n: u64) -> u64 {
@@ -676,221 +1133,471 @@ pub fn host_that_calls_through_a_bound<T: Other>(other: &T, n: u64) -> u64 {
     other.tell(n)
 }
 
-pub fn host_that_hands_it_on(n: u64) -> Counted {
-    opens_rightly(n)
+pub fn host_that_calls_a_closure<F: Fn(u64) -> u64>(f: F, n: u64) -> u64 {
+    f(n)
 }
 
-pub fn host_that_lends_a_count_through_a_bound<T: Other>(other: &T, n: u64) -> u64 {
-    let mut spent: u64 = n;
-    other.add(&mut spent);
-    spent
+pub fn host_that_hands_it_on(t: &mut [u64], n: u64) -> Counted<u64> {
+    opens_rightly(t, n)
 }
 
-pub fn host_that_lends_a_struct_with_a_count<T: Other>(other: &T, holder: Holder<'_>) {
-    other.hold(holder);
+pub fn host_that_has_a_book<T: Other>(other: &T, t: &[u64]) {
+    let mut book = Book::new(t, 1);
+    other.hold(&mut book);
 }
 
-pub fn opens_and_calls_through_a_bound<T: Other>(other: &T, n: u64) -> Counted {
-    let mut spent: u64 = 0;
-    let x = counts_get(other.tell(n), &mut spent);
-    Counted { reply: x, spent: spent }
+pub fn counts_through_a_bound<T: Other>(other: &T, book: &mut Shown<'_>) {
+    other.hold(book);
+}
+
+pub fn opens_and_calls_through_a_bound<T: Other>(other: &T, t: &[u64], n: u64) -> Counted<u64> {
+    let mut book = Book::new(t, n);
+    let x = other.tell(n);
+    Counted {
+        answer: Ok(x),
+        spent: book.spent(),
+    }
 }
 
 pub fn asks_through_a_bound<T: Other>(other: &T, n: u64) -> u64 {
     other.tell(n)
 }
+
+pub fn counts_with_a_closure<F: Fn(u64) -> u64>(f: F, book: &mut Shown<'_>) -> u64 {
+    f(book.get(0))
+}
 """
 # the functions of the example that are wrong, each with what is to be said of it
 FAULTS = {
-    "counts_get_for_nothing": "makes an access, and does not call sample::counts_one once",
-    "counts_get_for_two": "makes an access, and does not call sample::counts_one once",
-    "counts_on_another": "lends sample::counts_get another count than its own",
-    "counts_back": "looks at its count or changes it",
-    "counts_by_its_count": "looks at its count or changes it",
-    "counts_first": "has another `&mut u64` than its last parameter",
-    "counts_two": "has another `&mut u64` than its last parameter",
-    "counts_and_lends_elsewhere": "does something else with a count than lend it",
-    "counts_and_lends_in_a_struct": "does something else with a count than lend it",
-    "counts_and_hands_it_out": "hands out its count itself",
-    "counts_without_access": "calls sample::counts_one, and makes no access",
+    "Lax::address": "reaches into a table",
+    "Lax::begin": "makes a table or a book by itself",
+    "Lax::count": "is not what `count` of a table is",
+    "Lax::get": "does not count once and make one access (`get`)",
+    "Lax::new": "is not what `new` of a table is",
+    "Lax::peek": "calls a function that the call does not name",
+    "Lax::reset": "changes a table or a book",
+    "Lax::spent": "is not what `spent` of a table is",
+    "Lax::take_over": "takes or sets a table or a book as a whole",
+    "Lax+mut+slice+u64::put": "does not count once and make one access (`put`)",
+    "Slack::count": "is not what `count` of a table is",
+    "Slack::get": "does not count once and make one access (`get`)",
+    "Slack::spent": "is not what `spent` of a table is",
+    "Slack+mut+slice+u64::put": "reaches into a table",
+    "Idle::get": "does not count once and make one access (`get`)",
+    "Idle+mut+slice+u64::put": "does not count once and make one access (`put`)",
+    "Loose::new": "is not what `new` of a book is",
+    "Loose::spent": "is not what `spent` of a book is",
+    "Loose::tell": "reaches into a table",
+    "counts_a_cell_by_its_name": "calls sample::RefSliceU64Cells::cell, which is not for it",
+    "counts_a_cell_through_a_bound": "calls a function that the call does not name",
+    "counts_and_becomes": "takes or sets a table or a book as a whole",
+    "counts_and_hands_it_out": "hands out a table or a book",
+    "counts_and_hands_out_a_reply": "returns a reply with its count, and neither opens a count nor adds counts up",
+    "counts_and_lends_to_any": "lends a table or a book to sample::taken_for_any",
+    "counts_and_swaps": "lends a table or a book to std::mem::swap",
+    "counts_and_swaps_tables": "lends a table or a book to std::mem::swap",
     "counts_apart": "calls sample::opens_rightly, which counts apart",
-    "counts_not": "calls a function that counts, and does not count itself",
-    "opens_and_then_not": "returns something else than its count",
-    "opens_nothing_and_tells_five": "returns something else than its count",
-    "opens_from_a_number": "changes its count",
+    "counts_back": "changes a table or a book",
+    "counts_by_its_count": "calls sample::Book::spent, which is not for it",
+    "counts_by_its_tables_count": "calls sample::Table::spent, which is not for it",
+    "counts_in_a_closure": "has a table or a book inside something else",
+    "counts_in_a_pair": "has a table or a book inside something else",
+    "counts_in_a_struct": "has a table or a book inside something else",
+    "counts_in_an_option": "has a table or a book inside something else",
+    "counts_in_another_arena": "changes a table or a book",
+    "counts_on_another": "has a table or a book of its own",
+    "counts_on_what_is_given": "has a table or a book of its own",
+    "counts_through_a_bound": "lends a table or a book to a function that the call does not name",
+    "counts_two": "is lent more than one table or book",
+    "counts_with_a_closure": "calls a function that the call does not name",
+    "counts_without_access": "calls sample::Table::count, which is not for it",
+    "opens_a_fake": "makes a book of something else than a slice of u64",
+    "opens_again": "does not make one book",
+    "opens_and_calls_through_a_bound": "calls a function that the call does not name",
+    "opens_and_lends_what_it_tells": "hands out something else than its book's count",
+    "opens_and_reads_its_table": "reaches into a table",
+    "opens_and_reads_its_tables_count": "calls sample::Table::spent, which is not for it",
+    "opens_and_sets_its_reply": "hands out something else than its book's count",
+    "opens_and_sets_what_it_tells": "hands out something else than its book's count",
+    "opens_and_swaps": "lends a table or a book to std::mem::replace",
+    "opens_and_tells_early": "names its book after it has read the count",
+    "opens_and_tells_half": "hands out something else than its book's count",
+    "opens_and_tells_none": "hands out something else than its book's count",
+    "opens_and_then_refuses": "hands out something else than its book's count",
+    "opens_another": "calls sample::opens_rightly, which counts apart",
     "opens_around_another": "calls sample::opens_rightly, which counts apart",
-    "opens_after_another": "calls sample::opens_rightly, which counts apart",
-    "opens_through_another": "calls sample::asks_once, which counts apart",
-    "opens_by_itself": "calls sample::opens_by_itself, which counts apart",
-    "opens_in_a_box": "returns no reply with its count",
-    "opens_and_empties_a_copy": "returns something else than its count",
-    "opens_on_one_way": "returns something else than its count",
-    "opens_and_copies_on_one_way": "returns something else than its count",
-    "opens_and_sets_a_copy": "returns something else than its count",
-    "opens_and_calls_for_a_copy": "returns something else than its count",
-    "opens_and_tells_none_of_the_rounds": "returns something else than its count",
-    "opens_and_tells_of_before_the_rounds": "returns something else than its count",
-    "opens_and_leaves_a_round": "returns something else than its count",
-    "opens_and_tells_none": "returns something else than its count",
-    "opens_and_tells_none_once": "returns something else than its count",
-    "opens_and_tells_early": "returns something else than its count",
-    "opens_two": "has more than one count",
-    "opens_again": "changes its count",
-    "opens_each_round": "changes its count",
-    "opens_inside_each_round": "changes its count",
-    "opens_and_lends_elsewhere": "does something else with a count than lend it",
-    "adds_by_itself_for_nothing": "returns without adding a count",
-    "adds_no_sum": "calls sample::adds_sums before its sum is set to 0",
-    "adds_no_box": "calls sample::opens_in_a_box, which counts apart",
-    "adds_through_another": "calls sample::asks_once, which counts apart",
-    "adds_and_returns_none": "returns no reply with its count",
-    "adds_and_leaves_a_round": "returns without adding a count",
-    "adds_not_all_rounds": "goes on without adding a count",
-    "adds_what_may_be_none": "adds a count on one way only",
-    "adds_nothing_for_one": "changes a reply whose count is to be added",
-    "adds_two_for_one": "changes a reply whose count is to be added",
-    "adds_over_one": "loses a count at the call of sample::opens_rightly",
-    "adds_what_a_call_says": "loses a count at the call of sample::counts_of",
-    "adds_and_lends_elsewhere": "returns something else than its count",
+    "opens_by_hand": "makes a table or a book by itself",
+    "opens_each_round": "has a loop",
+    "opens_in_a_box": "hands out no reply with its count",
+    "opens_in_a_closure": "has a table or a book inside something else",
+    "opens_nothing": "does not make one book",
+    "opens_nothing_and_tells_five": "hands out something else than its book's count",
+    "opens_two": "does not make one book",
+    "tells_five": "hands out something else than its book's count",
+    "tells_of_a_book": "calls sample::Book::new, which is not for it",
+    "adds_by_itself_for_nothing": "adds a count on one way only",
+    "adds_after_one": "returns without adding a count",
+    "adds_again": "changes its sum",
     "adds_and_empties_a_copy": "returns something else than its count",
+    "adds_and_leaves_a_round": "returns without adding a count",
     "adds_and_lends_a_reply": "returns without adding a count",
-    "adds_no_more": "goes on without adding a count",
-    "adds_some": "adds a count on one way only",
-    "adds_the_first_twice": "changes its count",
+    "adds_and_lends_its_sum": "returns without adding a count",
+    "adds_and_returns_none": "returns something else than its count",
     "adds_and_tells_none": "returns something else than its count",
-    "adds_after_one": "before its sum is set to 0",
-    "asks_twice": "makes more than one request",
-    "asks_each_round": "makes more than one request",
-    "asks_twice_through_another": "makes more than one request",
-    "asks_each_round_through_another": "makes more than one request",
+    "adds_and_then_none": "returns something else than its count",
+    "adds_from_a_number": "changes its sum",
+    "adds_in_a_closure": "hands on sample::fn::adds_in_a_closure::find+FnMut::call_mut, which makes a request",
+    "adds_no_box": "calls sample::opens_in_a_box, which counts apart",
+    "adds_no_more": "goes on without adding a count",
+    "adds_no_sum": "returns something else than its count",
+    "adds_not_all_rounds": "goes on without adding a count",
+    "adds_nothing_for_one": "changes a reply whose count is to be added",
+    "adds_nothing_to_what_is_given": "returns without adding a count",
+    "adds_over_one": "loses a count at the call of sample::opens_rightly",
+    "adds_some": "adds a count on one way only",
+    "adds_the_first_twice": "changes its sum",
+    "adds_through_another": "calls sample::asks_once, which counts apart",
+    "adds_to_a_pair_of_none": "returns without adding a count",
+    "adds_to_a_pair_of_numbers": "returns without adding a count",
+    "adds_to_a_pair_the_first": "returns without adding a count",
+    "adds_to_an_option_of_an_option": "calls sample::adds_rightly, which counts apart",
+    "adds_to_what_is_made": "returns without adding a count",
+    "adds_two_for_one": "changes a reply whose count is to be added",
+    "adds_two_sums": "has more than one sum",
+    "adds_what_a_call_says": "loses a count at the call of sample::counts_of",
+    "adds_what_may_be_none": "adds a count on one way only",
     "asks_by_itself": "makes more than one request",
-    "asks_for_a_sum": "makes more than one request",
+    "asks_a_book": "has a table or a book, and does not count",
     "asks_and_hands_it_on": "returns a reply with its count, and neither opens a count nor adds counts up",
+    "asks_each_round": "makes more than one request",
+    "asks_each_round_through_another": "makes more than one request",
+    "asks_for_a_sum": "makes more than one request",
+    "asks_through_a_bound": "calls a function that the call does not name",
+    "asks_twice": "makes more than one request",
+    "asks_twice_through_another": "makes more than one request",
+    "asks_by_a_value": "hands on sample::sample++asks_of+FnOnce::call_once, which makes a request",
+    "asks_by_a_pointer": "takes the address of a function",
+    "free_and_calls_through_a_bound": "calls a function that the call does not name",
     "free_and_hands_it_on": "returns a reply with its count, and neither opens a count nor adds counts up",
     "helps": "counts, and plays no part that is known",
-    "free_and_calls_through_a_bound": "calls a function that the call does not name",
+    "Other::hold": "has a table or a book, and does not count",
     "host_that_hands_it_on": "returns a reply with its count, and neither opens a count nor adds counts up",
-    "host_that_lends_a_count_through_a_bound": "lends a count to a function that the call does not name",
-    "host_that_lends_a_struct_with_a_count": "lends a count to a function that the call does not name",
-    "opens_and_calls_through_a_bound": "calls a function that the call does not name",
-    "asks_through_a_bound": "calls a function that the call does not name",
+    "host_that_has_a_book": "has a table or a book, and does not count",
+    "fn::adds_in_a_closure::find": "returns without adding a count",
+    "fn::adds_in_a_closure::find+FnMut::call_mut": "calls sample::fn::adds_in_a_closure::find, which counts apart",
+    "fn::adds_in_a_closure::find+FnOnce::call_once": "calls sample::fn::adds_in_a_closure::find, which counts apart",
+    "fn::counts_in_a_closure::find": "has a table or a book inside something else",
+    "fn::counts_in_a_closure::find+FnMut::call_mut": "has a table or a book inside something else",
+    "fn::counts_in_a_closure::find+FnOnce::call_once": "has a table or a book inside something else",
+    "fn::opens_in_a_closure::find": "has a table or a book inside something else",
+    "fn::opens_in_a_closure::find+FnMut::call_mut": "has a table or a book inside something else",
+    "fn::opens_in_a_closure::find+FnOnce::call_once": "has a table or a book inside something else",
 }
 
 
-def is_count(kind):
-    """A `&mut u64`."""
-    return isinstance(kind, list) and kind[0] == "tyRef" and kind[2:] == ["mut", ["tyInt", "64"]]
+def lent_type(kind):
+    """The type behind a reference."""
+    return kind[-1] if isinstance(kind, list) and kind[0] == "tyRef" else None
 
 
-def counts(body):
-    """Whether a function has a `&mut u64` among its parameters."""
-    return any(is_count(kinds(body)[int(number)]) for number in parameters(body))
+def type_name(kind):
+    """The name of a type that is declared."""
+    return kind[1][1].strip('"') if isinstance(kind, list) and kind[0] == "tyNamed" else None
 
 
-def has_count(body, operand):
-    """Whether the type of what is lent has a `&mut u64` in it, also behind the names of types."""
-    place = place_of(operand)
-    shapes = {one[1]: one[2] for one in items(body[6])}
-    ahead = [kinds(body)[int(place[1])]] if place is not None else []
-    while ahead:
-        for node in walk(ahead.pop()):
-            if is_count(node):
-                return True
-            if node[:1] == ["tyNamed"]:
-                ahead += [shapes.pop(node[1][1])] if node[1][1] in shapes else []
-    return False
+def same_type(a, b):
+    """Whether two types are the same but for their lifetimes."""
+    return a == b or type_name(a) == type_name(b) is not None and len(given_types(a)) == len(given_types(b)) and all(map(same_type, given_types(a), given_types(b)))
 
 
-def is_reply(kind, replies):
-    """A struct of one of these names."""
-    return kind in [["tyNamed", ["pair", f'"{name}"', "lnil"]] for name in replies]
+def plain(body):
+    """Whether a function's code has no branch and no loop."""
+    return not any(node[0] in ("if", "switch", "block", "loop") for node in walk(body[5]))
 
 
-def returns(body, replies):
-    """Whether a function returns a struct of one of these names."""
-    return is_reply(kinds(body)[0], replies)
+def maker_of(name):
+    """The type whose function this is, and the function's own name."""
+    words = name.split("::")
+    return "::".join(words[:-1]).split("+")[0], words[-1]
 
 
-def lends(body, counting, count, steps):
-    """Faults in how a function lends a count, which is the place with these steps from a local, and how often it names the local in doing so."""
-    taken = [target for target, value in assigns(body)
-             if value[0] == "addrOf" and value[1][1] == count and [step[0] for step in items(value[1][2])] == steps]
-    made = [target[1] for target in taken if not items(target[2])]
-    given = []
-    wrong = []
-    for name, arguments, _ in calls(body):
-        if name in counting:
-            given.append(local_of(arguments[-1]))
-            if given[-1] not in made and (given[-1] != count or not steps):
-                wrong.append(f"lends {name} another count than its own")
-    uses = [local for local, _ in places(body[5])]
-    wrong += [f"does something else with a count than lend it (local {one})" for one in sorted(set(made)) if uses.count(one) != made.count(one) + given.count(one)]
-    wrong += ["hands out its count itself"] if "0" in made or len(made) < len(taken) else []
-    return wrong, len(made) + given.count(count)
+class Program:
+    """A program and the names that the rules speak of."""
+
+    def __init__(self, bodies, part_of, tables, books, cells, replies, unnamed):
+        self.bodies = bodies
+        self.part_of = part_of        # the part that each function plays, of PARTS where it counts
+        self.tables = tables          # the types that count
+        self.books = books            # the types that have such a table as their first field
+        self.cells = cells            # the impls of a cell's read
+        self.replies = replies        # the structs that have a count as their second field
+        self.unnamed = unnamed        # the functions that may call one that the call does not name
+        self.making = {f"{book}::new" for book in books}
+        self.hidden = self.apart()
+        self.taking = {name for name, body in bodies.items() if part_of(name) == "adds" and any(self.is_reply(kinds(body)[int(one)]) for one in parameters(body))}
+        self.replying = {name for name in bodies if self.replies_from(name)}
+
+    def is_held(self, kind):
+        """A table or a book."""
+        return type_name(kind) in self.tables | self.books
+
+    def is_lent(self, kind):
+        """A reference to a table or a book."""
+        return self.is_held(lent_type(kind))
+
+    def is_either(self, kind):
+        """A table or a book, or a reference to one."""
+        return self.is_held(kind) or self.is_lent(kind)
+
+    def is_reply(self, kind):
+        """A reply with its count."""
+        return type_name(kind) in self.replies
+
+    def apart(self):
+        """The functions that make a book, by themselves or by those that they call."""
+        found = set(self.making)
+        size = 0
+        while size < len(found):
+            size = len(found)
+            found |= {name for name, body in self.bodies.items() if found & ({one for one, _, _ in calls(body)} | handed(body, self.bodies))}
+        return found - self.making
+
+    def replies_from(self, name):
+        """Whether a function hands out a reply with its count, as a struct or as a pair."""
+        kind = kinds(self.bodies[name])[0]
+        return self.part_of(name) in HANDING and (self.is_reply(kind) or type_name(kind) == "(,)" and name in self.hidden | self.taking)
+
+    def may_call(self, name, called):
+        """Whether a function may call one that has to do with a count; all others may be called."""
+        kind, verb = maker_of(called)
+        own, own_verb = maker_of(name)
+        if called in self.cells:
+            return False
+        if kind in self.tables and verb in ("new", "spent"):
+            return own in self.books and own_verb == verb
+        if kind in self.tables and verb == "count":
+            return own == kind and own_verb in ("get", "put")
+        return kind not in self.books or verb not in ("new", "spent") or self.part_of(name) == "opens"
+
+    # ---- the functions of a table
+
+    def exact_faults(self, name):
+        """What is wrong in a function that makes a table, reads a cell, writes one, counts, or tells the count; nothing of another function."""
+        body = self.bodies[name]
+        kind, verb = maker_of(name)
+        called = [one for one, _, _ in calls(body)]
+        if kind in self.tables and verb in ("new", "spent", "count"):
+            values = [(target, value) for target, value in assigns(body) if value != ["rvOpd", "unit"]]
+            return [] if plain(body) and not called and self.right(verb, body, values) else [f"is not what `{verb}` of a table is"]
+        if kind in self.tables and verb in ("get", "put"):
+            right = plain(body) and called == [f"{kind}::count", *([None] if verb == "get" else [])]
+            return [] if right and (verb == "put" or self.hands_out_a_cell(body)) else [f"does not count once and make one access (`{verb}`)"]
+        if kind in self.books and verb in ("new", "spent"):
+            made = list(calls(body))
+            right = plain(body) and len(made) == 1 and made[0][0] in {f"{table}::{verb}" for table in self.tables}
+            told = made and made[0][2] == ["place", "0", "lnil"] and all(value[0] == "addrOf" for _, value in assigns(body))
+            return [] if right and (verb == "new" or told) else [f"is not what `{verb}` of a book is"]
+        return []
+
+    def right(self, verb, body, values):
+        """Whether the assignments of a function are those of `new`, `spent` or `count`."""
+        own = ["deref", "field 1"]
+        if verb == "new":
+            fields = items(values[-1][1][1]) if values and values[-1][1][0] == "aggregate" else []
+            return values[-1][0][1] == "0" and len(fields) == 2 and fields[1] == NONE and all(value[0] == "rvOpd" for _, value in values[:-1])
+        if verb == "spent":
+            return len(values) == 1 and values[0][1][0] == "rvOpd" and said(place_of(values[0][1][1])) == ("1", own)
+        if len(values) != 3:
+            return False
+        (a, read), (b, more), (into, told) = values
+        return (read[0] == told[0] == "rvOpd" and said(place_of(read[1])) == said(into) == ("1", own)
+                and more == ["op2", ["add", "unsigned"], ["copy", a], ["int", "64", "1"]] and told[1] == ["copy", b])
+
+    def hands_out_a_cell(self, body):
+        """Whether the call through a bound reads the table's own cells, and what it gives is handed out."""
+        (arguments, target), = [(arguments, target) for name, arguments, target in calls(body) if name is None]
+        lent = [value[1] for where, value in assigns(body) if value[0] == "addrOf" and where[1] == local_of(arguments[0])]
+        return [said(one) for one in lent] == [("1", ["deref", "field 0"])] and target == ["place", "0", "lnil"] and local_of(arguments[1]) == "2"
+
+    # ---- what is done with tables and books
+
+    def handling_faults(self, name):
+        """What a function does with a table or a book other than lend it on."""
+        body = self.bodies[name]
+        kind, verb = maker_of(name)
+        part = self.part_of(name)
+        all_kinds = kinds(body)
+        exact = kind in self.tables and verb in EXACT or kind in self.books and verb == "new"
+        wrong = []
+        tops = {id(one) for one in all_kinds} | {id(lent_type(one)) for one in all_kinds}
+        shapes = {id(node) for one in items(body[6]) if one[1].strip('"') in self.books for node in items(one[2][1])[:1]}
+        if any(self.is_held(node) and id(node) not in tops | shapes for node in walk([body[4], body[6]])):
+            wrong.append("has a table or a book inside something else")
+        if not any(map(self.is_either, all_kinds)):
+            return wrong
+        if part not in ("counts", "opens"):
+            wrong.append("has a table or a book, and does not count")
+        if any(map(self.is_held, all_kinds)) and part != "opens" and not exact:
+            wrong.append("has a table or a book of its own")
+        if sum(self.is_either(all_kinds[int(number)]) for number in parameters(body)) > 1:
+            wrong.append("is lent more than one table or book")
+        if self.is_either(all_kinds[0]) and not exact:
+            wrong.append("hands out a table or a book")
+        wrong += [f"lends a table or a book to {one}" for one in strayed(body, self.bodies, self.is_either)]
+        accesses = kind in self.tables and verb in ("get", "put")
+        return wrong + ([] if exact and not accesses else self.place_faults(body, accesses))
+
+    def place_faults(self, body, accesses):
+        """Where a table or a book is named otherwise than to be lent, or for its arena."""
+        wrong = []
+        all_kinds = kinds(body)
+        lent = {id(value[1]): target for target, value in assigns(body) if value[0] == "addrOf"}
+        for place in named(body[5]):
+            kind, steps = all_kinds[int(place[1])], said(place)[1]
+            if not self.is_either(kind):
+                continue
+            behind = [step for step in steps if step != "deref"] if self.is_lent(kind) else steps
+            table = type_name(lent_type(kind) or kind) in self.tables
+            whole_lent = id(place) in lent and self.is_lent(all_kinds[int(lent[id(place)][1])]) and lent[id(place)][2] == "lnil"
+            if behind and (table and not (accesses and behind[0] == "field 0") or not table and behind[0] == "field 0" and (behind != ["field 0"] or not whole_lent)):
+                wrong.append("reaches into a table")
+            elif not behind and steps and not whole_lent:
+                wrong.append("takes or sets a table or a book as a whole")
+            elif not behind and id(place) in lent and not whole_lent:
+                wrong.append("lends a table or a book otherwise than to a function")
+        for node in walk(body[5]):
+            if node[0] in ("assign", "call") and len(node) > 2:
+                where = target(node)
+                if self.is_either(all_kinds[int(where[1])]) and where[2] != "lnil":
+                    wrong.append("changes a table or a book")
+                if node[0] == "assign" and where[2] == "lnil" and self.is_held(all_kinds[int(where[1])]) and (
+                        node[2][0] != "rvOpd" or local_of(node[2][1]) is None):
+                    wrong.append("makes a table or a book by itself")
+        return wrong
+
+    # ---- a request
+
+    def opening_faults(self, name):
+        """Faults of a request, or of another function that hands out a reply and makes no book."""
+        body = self.bodies[name]
+        found = ways(body[5])
+        wrong = [] if self.is_reply(kinds(body)[0]) else ["hands out no reply with its count"]
+        if found is None:
+            return wrong + ["has a loop"]
+        made = [one for way in found for one in way if one[0] == "call" and callee(one) in self.making]
+        if self.part_of(name) == "opens" and len({id(one) for one in made}) != 1:
+            wrong.append("does not make one book")
+        wrong += [fault for way in found for fault in self.way_faults(body, way)]
+        if any(self.is_held(kind) and not all(map(is_table, given_types(kind))) for kind in kinds(body)):
+            wrong.append("makes a book of something else than a slice of u64")
+        return wrong
+
+    def way_faults(self, body, way):
+        """Faults of one way through a request."""
+        if way[-1:] != ["return"]:
+            return ["ends without a return"]
+        made = [at for at, one in enumerate(way) if one[0] == "call" and callee(one) in self.making]
+        told = setter(body, way, len(way), "0")
+        reply = way[told] if told is not None else ["none"]
+        if not made and reply[0] == "call" and callee(reply) in self.replying - self.hidden:
+            return []
+        fields = items(reply[2][1]) if reply[0] == "assign" and reply[2][0] == "aggregate" else []
+        if len(fields) != 2 or not self.is_reply(kinds(body)[int(target(reply)[1])]):
+            return ["hands out something else than its book's count"]
+        if not made:
+            return [] if fields[1] == NONE else ["hands out something else than its book's count"]
+        read = setter(body, way, told, local_of(fields[1]))
+        if read is None or way[read][0] != "call" or maker_of(callee(way[read]) or "")[1] != "spent" or maker_of(callee(way[read]))[0] not in self.books or read < made[-1]:
+            return ["hands out something else than its book's count"]
+        later = [place for one in way[read + 1:] for place in named(one) if self.is_either(kinds(body)[int(place[1])])]
+        return ["names its book after it has read the count"] if later else []
 
 
-def passing_faults(body, counting):
-    """What a function that counts does with its count other than lend it on."""
-    own = [number for number in parameters(body) if is_count(kinds(body)[int(number)])]
-    if own != parameters(body)[-1:]:
-        return ["has another `&mut u64` than its last parameter"]
-    wrong, named = lends(body, counting, own[0], ["deref"])
-    if sum(1 for local, _ in places(body[5]) if local == own[0]) != named:
-        wrong.append("looks at its count or changes it")
-    return wrong
+def said(place):
+    """A place's local and its steps in words."""
+    return place and (place[1], [step[0] if step[0] == "deref" else " ".join(step) for step in items(place[2])])
+
+
+def setter(body, way, end, local):
+    """Where on a way a local got what it has at `end`, back over copies of whole locals; nothing where that is not plain."""
+    while local is not None and local not in addressed(body):
+        found = [at for at in range(end) if way[at] != "return" and target(way[at])[1] == local]
+        if not found or target(way[found[-1]])[2] != "lnil":
+            return None
+        end, one = found[-1], way[found[-1]]
+        local = local_of(one[2][1]) if one[0] == "assign" and one[2][0] == "rvOpd" else None
+        if local is None:
+            return end
+    return None
 
 
 @dataclass(frozen=True)
 class Known:
-    """What is known at a point of a function that opens a count or adds counts up."""
-    begun: bool = False               # the count has been set to 0
+    """What is known at a point of a function that adds counts up or hands one on."""
+    begun: bool = False               # the sum has been set to 0
     called: bool = False              # something may have been counted
-    same: frozenset = frozenset()     # the locals that hold the count's value now
-    told: bool = False                # what is to be returned has this value
-    owed: frozenset = frozenset()     # the replies whose count has not been added
+    same: frozenset = frozenset()     # the locals that hold the sum's value now
+    told: frozenset = frozenset()     # the locals that hold a result with the right count
+    owed: frozenset = frozenset()     # the replies whose count has not been added or handed on, each by the local that it came in
+    held: frozenset = frozenset()     # (local, reply): the locals that hold such a reply
+    counts: frozenset = frozenset()   # (local, reply): the locals that hold its count
 
-    def set(self, local, same=False):
-        """After a local was set to the count's value, or to something else."""
-        return replace(self, same=self.same | {local} if same else self.same - {local})
+    def without(self, local):
+        """After a local was set to something else."""
+        return replace(self, same=self.same - {local}, told=self.told - {local}, held=frozenset(one for one in self.held if one[0] != local),
+                       counts=frozenset(one for one in self.counts if one[0] != local))
 
-    def counted(self, count):
-        """After the count may have grown."""
-        return replace(self, called=True, same=frozenset({count}), told=False)
+    def counted(self, sum_):
+        """After more may have been counted."""
+        return replace(self, called=True, same=frozenset({sum_}), told=frozenset())
 
 
-class Handing:
-    """A walk along the paths of a function that opens a count or adds counts up."""
+class Adding:
+    """A walk along the ways of a function that adds counts up or hands one on."""
 
-    def __init__(self, body, counting, counted, replying, replies):
-        self.body = body
-        self.counting = counting      # the functions that count
-        self.counted = counted        # the functions that count apart and return a reply with its count
-        self.replying = replying      # the functions that return a reply with its count
-        self.replies = replies        # the structs that are a reply with its count
-        self.lent = addressed(body)
+    def __init__(self, program, name):
+        self.program = program
+        self.body = program.bodies[name]
+        # an address of a reply's first field leaves its count alone
+        self.lent = {value[1][1] for _, value in assigns(self.body) if value[0] == "addrOf" and said(value[1])[1][:1] != ["field 0"]}
         self.rounds = 0               # the loops around
-        opened = {value[1][1] for target, value in assigns(body) if value[0] == "addrOf" and not items(value[1][2])
-                  and any(name in counting and local_of(arguments[-1]) == target[1] for name, arguments, _ in calls(body))}
-        sums = {target[1] for target, value in assigns(body) if self.added(target, value)}
-        self.count = next(iter(opened | sums), "none")
-        self.wrong = lends(body, counting, self.count, [])[0]
-        if len(opened | sums) > 1:
-            self.wrong.append("has more than one count")
-        if not returns(body, replies):
-            self.wrong.append("returns no reply with its count")
+        self.wrong = []
+        sums = {target[1] for target, value in assigns(self.body) if self.is_sum(target, value)}
+        self.sum = next(iter(sums), "none")
+        if len(sums) > 1:
+            self.wrong.append("has more than one sum")
+        if sums & self.lent:
+            self.wrong.append("lends its sum")
 
-    def added(self, target, value):
-        """The reply whose count is added to the target, if that is what is assigned."""
-        if value[0] == "op2" and value[1] == ["add", "unsigned"] and local_of(value[2]) == target[1] and not items(target[2]):
-            place = place_of(value[3])
-            if place and items(place[2]) == [["field", "1"]] and is_reply(kinds(self.body)[int(place[1])], self.replies):
-                return place[1]
-        return None
+    def is_sum(self, target, value):
+        """Whether a count is added to the target: a reply's second field, or a local that may hold it."""
+        if value[:2] != ["op2", ["add", "unsigned"]] or local_of(value[2]) != target[1] or target[2] != "lnil":
+            return False
+        place = place_of(value[3])
+        known = {where[1] for where, one in assigns(self.body) if one[0] == "rvOpd" and self.is_count(place_of(one[1]))}
+        return self.is_count(place) or local_of(value[3]) in known
+
+    def is_count(self, place):
+        """Whether a place is the second field of a reply or of a pair."""
+        return bool(place) and said(place)[1] == ["field 1"] and type_name(kinds(self.body)[int(place[1])]) in self.program.replies | {"(,)"}
+
+    def reply_of(self, operand, known):
+        """The reply that an operand is, and the reply that it is the count of."""
+        place = place_of(operand)
+        if not place:
+            return None, None
+        whole = dict(known.held).get(place[1])
+        if place[2] == "lnil":
+            return whole, dict(known.counts).get(place[1])
+        return None, whole if self.is_count(place) else None
 
     def faults(self):
         """What is wrong in the function."""
-        end = self.along(self.body[5], Known())
-        if end is not None:
+        first = Known()
+        for number in parameters(self.body):
+            if self.program.is_reply(kinds(self.body)[int(number)]):
+                first = replace(first, called=True, owed=first.owed | {number}, held=first.held | {(number, number)})
+        if self.along(self.body[5], first) is not None:
             self.wrong.append("ends without a return")
         return self.wrong
 
@@ -899,22 +1606,23 @@ class Handing:
         if known is None or code == "skip":
             return known
         if code == "return":
-            if known.owed:
+            if self.handed_on(known).owed:
                 self.wrong.append("returns without adding a count")
-            if not known.told:
+            elif "0" not in self.handed_on(known).told:
                 self.wrong.append("returns something else than its count")
             return None
         if code[0] == "seq":
             return self.along(code[2], self.along(code[1], known))
-        if code[0] == "if":
-            return self.meet(self.along(code[2], known), self.along(code[3], known))
+        if code[0] in ("if", "switch"):
+            found = [self.along(one, known) for one in (code[2:] if code[0] == "if" else arms(code))]
+            return functools.reduce(self.meet, found)
         if code[0] == "assign":
             return self.assigned(code[1], code[2], known)
         if code[0] == "call":
             return self.after_call(code, known)
         if code[0] in ("block", "loop"):
-            # round and round, from and to where nothing is owed; only the count itself is known to hold its value
-            inside = known.counted(self.count) if known.begun else replace(known, told=False)
+            # round and round, from and to where nothing is owed; only the sum itself is known to hold its value
+            inside = replace(known.counted(self.sum) if known.begun else replace(known, told=frozenset()), held=frozenset(), counts=frozenset())
             self.settled(known)
             self.rounds += 1
             self.settled(self.along(code[1], inside))
@@ -927,114 +1635,119 @@ class Handing:
         return known
 
     def meet(self, a, b):
-        """What is known where two paths meet."""
+        """What is known where two ways meet."""
         if a is None or b is None:
             return a or b
         if a.owed != b.owed:
+            a, b = self.handed_on(a), self.handed_on(b)
+        if a.owed != b.owed:
             self.wrong.append("adds a count on one way only")
-        return Known(a.begun and b.begun, a.called or b.called, a.same & b.same, a.told and b.told, a.owed | b.owed)
+        return Known(a.begun and b.begun, a.called or b.called, a.same & b.same, a.told & b.told, a.owed | b.owed, a.held & b.held, a.counts & b.counts)
+
+    def handed_on(self, known):
+        """The same where the one reply whose count is owed is the result, as it came."""
+        results = {local for local, reply in known.held if known.owed == {reply} and self.is_result(local)}
+        return replace(known, owed=frozenset(), told=known.told | results) if results and not known.begun else known
+
+    def is_result(self, local):
+        """Whether a local has the type of what the function hands out."""
+        return same_type(kinds(self.body)[int(local)], kinds(self.body)[0])
 
     def settled(self, known):
-        """Nothing may be owed here, and nothing counted before the count is set to 0."""
+        """Nothing may be owed here, and nothing counted before the sum is set to 0."""
         if known is not None and (known.owed or known.called and not known.begun):
             self.wrong.append("goes on without adding a count")
 
     def assigned(self, target, value, known):
         """What is known after an assignment."""
-        local, whole = target[1], not items(target[2])
-        if local in known.owed:
+        local, whole = target[1], target[2] == "lnil"
+        if local in dict(known.held) and not (whole and dict(known.held)[local] not in known.owed):
             self.wrong.append("changes a reply whose count is to be added")
-        if local == self.count:
-            reply = self.added(target, value)
+        if local == self.sum:
+            reply = self.reply_of(value[3], known)[1] if self.is_sum(target, value) else None
             if reply in known.owed:
-                return replace(known.counted(self.count), owed=known.owed - {reply})
+                return replace(known.counted(self.sum), owed=known.owed - {reply})
             if not whole or value != ["rvOpd", NONE] or known.begun or known.called or self.rounds:
-                self.wrong.append("changes its count")
-            return replace(known, begun=True, same=frozenset({local}))
-        if local == "0":
-            fields = items(value[1]) if whole and value[0] == "aggregate" else []
-            return replace(known, told=len(fields) == 2 and (local_of(fields[1]) in known.same or fields[1] == NONE and not known.called))
-        return known.set(local, same=whole and value[0] == "rvOpd" and local_of(value[1]) in known.same and local not in self.lent)
+                self.wrong.append("changes its sum")
+            return replace(known.without(local), begun=True, same=frozenset({local}))
+        after = known.without(local)
+        if not whole or local in self.lent:
+            return after
+        if value[0] == "aggregate" and self.is_result(local):
+            return self.made(local, items(value[1]), known, after)
+        if value[0] != "rvOpd":
+            return after
+        reply, count = self.reply_of(value[1], known)
+        of = local_of(value[1])
+        return replace(after, same=after.same | ({local} if of in known.same else set()), told=after.told | ({local} if of in known.told else set()),
+                       held=after.held | ({(local, reply)} if reply else set()), counts=after.counts | ({(local, count)} if count else set()))
+
+    def made(self, local, fields, known, after):
+        """What is known after a result was put together: its last part is the count, or it has none where nothing was counted."""
+        reply = self.reply_of(fields[-1], known)[1] if fields else None
+        if reply in known.owed and len(known.owed) == 1 and not known.begun:
+            return replace(after, owed=frozenset(), told=after.told | {local})
+        is_right = len(fields) == 2 and local_of(fields[1]) in known.same or not known.called and (len(fields) == 1 or fields[-1:] == [NONE])
+        return replace(after, told=after.told | {local}) if is_right else after
 
     def after_call(self, call, known):
         """What is known after a call."""
-        name, local, whole = callee(call), call[3][1], not items(call[3][2])
-        if local == self.count or local in known.owed:
+        program, name, local = self.program, callee(call), call[3][1]
+        if local == self.sum or dict(known.held).get(local) in known.owed:
             self.wrong.append(f"loses a count at the call of {name}")
-        if name in self.replying and local == "0" and whole and not known.called:
-            return replace(known, called=name in self.counted, told=True)
-        if name in self.counting:
-            if not known.begun:
-                self.wrong.append(f"calls {name} before its count is set to 0")
-            known = known.counted(self.count)
-        if name in self.counted:
-            if not known.begun:
-                self.wrong.append(f"calls {name} before its sum is set to 0")
-            if local in self.lent:
-                self.wrong.append("lends a reply whose count is to be added")
-            known = replace(known.counted(self.count), owed=known.owed | {local})
-        return replace(known, told=False) if local == "0" else known.set(local)
+        after = known.without(local)
+        if name not in program.replying or call[3][2] != "lnil":
+            return after
+        if name not in program.hidden | program.taking:
+            return after if known.called else replace(after, told=after.told | {local})
+        if local in self.lent:
+            self.wrong.append("lends a reply whose count is to be added")
+        # the result of a function that is given replies has their count too
+        given = [self.reply_of(one, known)[0] for one in items(call[2]) if program.is_reply(kind_of(self.body, one))]
+        if name in program.taking and (len(set(given)) < len(given) or not known.owed.issuperset(given)):
+            return after
+        after = after.counted(self.sum) if name in program.hidden else after
+        return replace(after, owed=after.owed - set(given) | {local}, held=after.held | {(local, local)})
 
 
-def counting_in(bodies, part_of):
-    """The functions that count."""
-    return {name for name, body in bodies.items() if part_of(name) == "counts" and counts(body)}
-
-
-def apart(bodies, counting):
-    """The functions that count, by themselves or by those that they call, on another count than one that they are lent."""
-    found = set(counting)
-    size = 0
-    while size < len(found):
-        size = len(found)
-        found |= {name for name, body in bodies.items() if any(one in found for one, _, _ in calls(body))}
-    return found - counting
-
-
-def requests_made(name, bodies, hidden, part_of, above=()):
+def requests_made(program, name, above=()):
     """How many requests a function makes at most, by itself and by those that it calls; more than one in a loop, or where it calls itself."""
-    if name not in hidden or part_of(name) == "opens":
-        return int(name in hidden)
-    if name in above or part_of(name) != "asks":
+    if name not in program.hidden or program.part_of(name) == "opens":
+        return int(name in program.hidden)
+    if name in above or program.part_of(name) != "asks":
         return 2
-    codes = [bodies[name]] + [node for node in walk(bodies[name]) if node[0] == "loop"] * 2
-    return sum(requests_made(one, bodies, hidden, part_of, (*above, name)) for code in codes for one, _, _ in calls(code))
+    body = program.bodies[name]
+    codes = [body] + [node for node in walk(body) if node[0] == "loop"] * 2
+    return sum(requests_made(program, one, (*above, name)) for code in codes for one, _, _ in calls(code))
 
 
-def faults(bodies, part_of, counter, accesses, replies):
-    """Faults of a program: its functions, the part that each plays (of PARTS, where it counts), the function that looks behind a count, the functions
-    that make an access each, and the structs that are a reply with its count.
-    """
-    counting = counting_in(bodies, part_of)
-    hidden = apart(bodies, counting)
-    replying = {name for name, body in bodies.items() if part_of(name) in ("opens", "adds") and returns(body, replies)}
-    wrong = []
-    for name, body in bodies.items():
-        part = part_of(name)
-        called = {one for one, _, _ in calls(body)}
-        found = []
-        unnamed = [arguments for one, arguments, _ in calls(body) if one is None]
-        if unnamed and part != "host":
-            found.append("calls a function that the call does not name")
-        elif any(has_count(body, one) for arguments in unnamed for one in arguments):
-            found.append("lends a count to a function that the call does not name")
-        if counter in called and name not in accesses:
-            found.append(f"calls {counter}, and makes no access")
-        if name in accesses and [one for one, _, _ in calls(body)] != [counter]:
-            found.append(f"makes an access, and does not call {counter} once and nothing else")
-        if name in hidden and part not in PARTS:
-            found.append("counts, and plays no part that is known")
-        if part in ("counts", "opens", "adds"):
-            found += [f"calls {one}, which counts apart" for one in sorted(called & hidden - (replying if part == "adds" else set()))]
-        if name in counting:
-            found += passing_faults(body, counting) if name != counter else []
-        elif called & counting and part != "opens":
-            found.append("calls a function that counts, and does not count itself")
-        elif part in ("opens", "adds") and name in hidden | replying:
-            found += Handing(body, counting, hidden & replying, replying, replies).faults()
-        elif returns(body, replies):
-            found.append("returns a reply with its count, and neither opens a count nor adds counts up")
-        elif part == "asks" and requests_made(name, bodies, hidden, part_of) > 1:
-            found.append("makes more than one request")
-        wrong += [f"{name} {one}" for one in dict.fromkeys(found)]
+def faults(bodies, part_of, tables, books, cells, replies, unnamed):
+    """Faults of a program; the words are those of `Program`."""
+    program = Program(bodies, part_of, tables, books, cells, replies, unnamed)
+    return [f"{name} {one}" for name in bodies for one in dict.fromkeys(faults_of(program, name))]
+
+
+def faults_of(program, name):
+    """Faults of a function."""
+    body, part = program.bodies[name], program.part_of(name)
+    called = {one for one, _, _ in calls(body)}
+    wrong = program.exact_faults(name) + program.handling_faults(name)
+    if None in called and name not in program.unnamed and part != "host":
+        wrong.append("calls a function that the call does not name")
+    wrong += [f"calls {one}, which is not for it" for one in sorted(called - {None}) if not program.may_call(name, one)]
+    if part != "host":
+        wrong += [f"hands on {one}, which makes a request" for one in sorted(handed(body, program.bodies) & program.hidden)]
+        wrong += ["takes the address of a function"] if any(node[0] == "fnAddr" for node in walk(body)) else []
+    if name in program.hidden and part not in PARTS:
+        wrong.append("counts, and plays no part that is known")
+    if part in ("counts", *HANDING):
+        wrong += [f"calls {one}, which counts apart" for one in sorted(called & program.hidden - (program.replying if part == "adds" else set()))]
+    if part in ("opens", "tells") and (part == "opens" or name in program.hidden | program.replying):
+        return wrong + program.opening_faults(name)
+    if part == "adds" and name in program.hidden | program.replying:
+        return wrong + Adding(program, name).faults()
+    if program.is_reply(kinds(body)[0]):
+        wrong.append("returns a reply with its count, and neither opens a count nor adds counts up")
+    if part == "asks" and requests_made(program, name) > 1:
+        wrong.append("makes more than one request")
     return wrong

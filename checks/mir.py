@@ -117,9 +117,22 @@ def quoted(name):
     return f'"{name}"'
 
 
-def direct(name, types):
-    """A function that a call names, and the types that it is called at, if any. Which impls it is called with is left out."""
-    return ["direct", ["symbol", name], *([types] if types != "lnil" else [])]
+# the libraries of the toolchain
+TOOLCHAIN = {"core", "std", "io", "os", "libc", "std_alloc", "std_collections", "std_heap", "std_io"}
+
+
+def is_outside(name):
+    """Whether a function or an impl is of the toolchain's libraries."""
+    return name.strip('"').split("::")[0] in TOOLCHAIN
+
+
+def direct(name, types="lnil", impls=()):
+    """A function that a call names, the types that it is called at, and the program's own impls that it is called with, by which it may call them.
+
+    One of the toolchain's libraries goes by its last two words: the text has it by the module that brings it in.
+    """
+    name = quoted("::".join(["std", *name.strip('"').split("::")[-2:]])) if is_outside(name) else name
+    return ["direct", ["symbol", name], types, chain(sorted({one for one in impls if not is_outside(one)}))]
 
 
 def fn_def(name, parameters, locals_, code, types):
@@ -146,6 +159,12 @@ def is_node(value):
     return isinstance(value, dict) and len(value) == 1 and next(iter(value))[0].isupper()
 
 
+def impls_of(dicts):
+    """The impls that a call of a file is made with."""
+    made = [one["Impl"] for one in dicts if "Impl" in one]
+    return [quoted(name) for name, _, _ in made] + [name for _, _, inner in made for name in impls_of(inner)]
+
+
 def of_value(value):
     """A node of a file, but for code."""
     if isinstance(value, bool):
@@ -166,7 +185,9 @@ def of_value(value):
     if name in ("Int", "Float"):
         return [name.lower(), *(str(one) for one in part.values())] if isinstance(part, dict) else ["ty" + name, str(part)]
     if name == "Fn":
-        return direct(quoted(part[0]), of_value(part[1]["types"]))
+        return direct(quoted(part[0]), of_value(part[1]["types"]), impls_of(part[1]["dicts"]))
+    if name == "Method":
+        return ["method", of_value(part[0]), str(part[1]), of_value(part[2]["types"])]
     if name == "Struct":
         return ["tyStruct", quoted(part[0]), of_value(part[1])]
     if name == "Lit":
@@ -208,7 +229,8 @@ def of_library(file):
     for name, it in json.loads(Path(file).read_text()):
         types = [["type", quoted(one["name"]), of_value(one["shape"])] for one in it["types"]]
         locals_ = [["local", of_value(one["ty"]), of_value(one["home"])] for one in it["locals"]]
-        yield fn_def(name, it["params"], locals_, of_code(it["body"]), types)
+        # what a trait asks of its impls has a name of its own here, and no code
+        yield fn_def(name.removesuffix("+decl"), it["params"], locals_, of_code(it["body"]), types)
 
 
 # ---- the text of --generated: definitions of antt, `NAME = TERM`, with calls by juxtaposition
@@ -291,7 +313,9 @@ class Text:
         """A term as nested lists, with what it names put in."""
         if isinstance(term, str):
             if self.called(term):
-                return direct(self.called(term), "lnil")
+                return direct(self.called(term))
+            if term.startswith('"'):
+                return term
             if term in self.defined:
                 return self.term(term)
             name = term.split(".", 1)[1] if term.startswith(("Syntax.", "Table.")) else term
@@ -302,18 +326,25 @@ class Text:
             return ["pair", *(self.nodes(one) for one in term[1:])]
         # a call of a call's result does not come up: what is called is a name
         if term[0] == "Syntax.fn":
-            return direct(self.called(term[1]) or self.nodes(term[1]), self.nodes(term[2])[1])
+            return direct(self.called(term[1]) or self.nodes(term[1]), self.nodes(term[2])[1], impls_in(self.nodes(term[2])[2]))
         name, *parts = [self.nodes(one) for one in term]
         if name[:1] == ["direct"]:
-            return direct(name[1][1], parts[0][1])
+            return direct(name[1][1], parts[0][1], impls_in(parts[0][2]))
         if name == "cInts":
             return ["ints", ["record", ["values", parts[1]], ["width", parts[0]]]]
+        if name == "method":
+            parts[2] = parts[2][1]
         if name == "tyStruct":
             parts[0] = spelled(parts[0])
         if name == "tyNamed":
             parts[0] = ["pair", spelled(parts[0][1]), parts[0][2]]
             parts = parts if parts[1] != "lnil" else parts[:1]
         return [name, *parts]
+
+
+def impls_in(dicts):
+    """The impls that a call of the text is made with: there each is the list of its functions."""
+    return [quoted(items(node[1])[0].strip('"').rsplit("::", 1)[0]) for node in walk(dicts) if node[0] == "impl" and items(node[1])]
 
 
 def spelled(letters):
@@ -438,6 +469,100 @@ def calls(body):
             yield None, [one for part in node[1:] for one in (items(part) or [part])], next((one for one in reversed(node) if one[:1] == ["place"]), ["place", "none", "lnil"])
 
 
+def handed(body, bodies):
+    """The functions of the program that come with an impl that a call is made with: whoever is called so may call them."""
+    impls = {one.strip('"') for node in walk(body) if node[0] == "direct" for one in items(node[3])}
+    return {name for name in bodies if name.rsplit("::", 1)[0] in impls}
+
+
 def callee(call):
     """The name of the function that is called, if the call says it."""
     return call[1][1][1].strip('"') if call[1][0] == "direct" else None
+
+
+def ways(code, done=()):
+    """All ways through code that has no loop: the statements of each in turn, to its `return`. Nothing where there is a loop, or code that is not understood."""
+    if code == "return":
+        return [[*done, code]]
+    if code == "skip":
+        return [list(done)]
+    if code[0] in ("assign", "call"):
+        return [[*done, code]]
+    if code[0] == "seq":
+        first = ways(code[1], done)
+        each = [[way] if way[-1:] == ["return"] else ways(code[2], way) for way in first or []]
+        return None if first is None or None in each else [way for one in each for way in one]
+    branches = [code[2], code[3]] if code[0] == "if" else arms(code) if code[0] == "switch" else None
+    found = [ways(branch, done) for branch in branches or []]
+    return None if branches is None or None in found else [way for one in found for way in one]
+
+
+def arms(switch):
+    """The pieces of code that a switch chooses among."""
+    found, rest = [], switch[2]
+    while rest != "noDefault":
+        found.append(rest[-2] if rest[0] == "arm" else rest[1])
+        rest = rest[-1] if rest[0] == "arm" else "noDefault"
+    return found
+
+
+def target(statement):
+    """The place that an assignment or a call sets."""
+    return statement[1] if statement[0] == "assign" else statement[3] if statement[0] == "call" else None
+
+
+def set_by(body, local):
+    """The one assignment or call that sets a local as a whole; nothing where there is another, or its address is taken."""
+    found = [node for node in walk(body[5]) if node[0] in ("assign", "call") and len(node) in (3, 4) and target(node)[1] == local]
+    return found[0] if len(found) == 1 and target(found[0])[2] == "lnil" and local not in addressed(body) and local not in parameters(body) else None
+
+
+def put_in(kind, given):
+    """A type with these types in the place of its parameters."""
+    if not isinstance(kind, list):
+        return kind
+    return given[int(kind[1])] if kind[0] == "tyParam" and int(kind[1]) < len(given) else [put_in(one, given) for one in kind]
+
+
+def given_types(kind):
+    """The types that a named type is made with."""
+    return items(kind[2]) if len(kind) > 2 else []
+
+
+def kinds_along(body, place):
+    """The types of a place's local and of what each of its steps comes to; `unknown` where that is not known."""
+    shapes = {one[1]: one[2] for one in items(body[6])}
+    found = [kinds(body)[int(place[1])]]
+    for step in items(place[2]):
+        kind = found[-1]
+        fields = []
+        if kind[0] == "tyNamed" and kind[1][1] in shapes:
+            shape = shapes[kind[1][1]]
+            parts = [put_in(one, given_types(kind)) for one in items(shape[1])]
+            if shape[0] == "variants" and step[0] == "variant":
+                found.append(["tyStruct", "a variant", chain([["tyInt", "8"], *items(parts[int(step[1])])])])
+                continue
+            fields = parts if shape[0] == "fields" else []
+        elif kind[0] == "tyStruct":
+            fields = items(kind[2])
+        if step[0] == "deref":
+            found.append(step[1])
+        elif step[0] == "field" and int(step[1]) < len(fields):
+            found.append(fields[int(step[1])])
+        else:
+            found.append(["unknown"])
+    return found
+
+
+def kind_of(body, operand):
+    """The type of what an operand copies or moves."""
+    place = place_of(operand)
+    return kinds_along(body, place)[-1] if place else ["unknown"]
+
+
+def strayed(body, bodies, is_one):
+    """The functions that are lent one of these types, and are not of the program or take something else there, such as any type."""
+    for called, arguments, _ in calls(body):
+        for number, one in enumerate(arguments, 1):
+            if is_one(kind_of(body, one)) and not (called in bodies and is_one(kinds(bodies[called])[number])):
+                yield called or "a function that the call does not name"

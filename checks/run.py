@@ -149,10 +149,18 @@ def readers_agree():
     return wrong + ([f"{len(compiled)} functions were read"] if len(compiled) != mir.SAMPLE.count("fn ") else [])
 
 
-# The functions that make an access to the table each; `cells::count` counts it.
-ACCESSES = {"cells::get", "cells::put"}
+# The table that counts, the book that has it, and the functions that make an access to the table each.
+TABLE, BOOK = "cells::lent::Table", "walks::book::Book"
+CELLS = {"cells::lent::RefSliceU64Cells::cell", "cells::lent::RefMutSliceU64Cells::cell"}
+ACCESSES = CELLS | {f"{TABLE}+mut+slice+u64::put"}
+# The six requests: each makes one book, over the cells that its arena needs.
+REQUESTS = {f"arena::{name}" for name in ("start", "take", "give_back", "which", "figures", "check_up")}
+# What a request hands out, with its count as the second field; and the functions of the library that call through a bound: the read of a table's cell, and
+# two of a reply of any kind, which says its values and is copied.
+REPLY = "arena::told::Counted"
+THROUGH_A_BOUND = {f"{TABLE}::get", f"{REPLY}::numbers", f"{REPLY}Clone::clone"}
 # The lists of requests and of answers are slices of u64 too: the functions of `sequence` that have such lists, and the names of the parameters that
-# are. Two of these functions reach elements, those of their list alone. The table is none of these parameters.
+# are. The table is none of these parameters. Where a function has no other slices of u64, it may do with them what it likes.
 LISTS = {
     "number_at": {"list"},
     "store_reply": {"answers"},
@@ -172,7 +180,10 @@ def all_code():
 
 def source_of(name):
     """The source text that a function stands in."""
-    return (ROOT / "crates" / name.split("::")[0] / "src/lib.rt").read_text()
+    crate, *modules = name.split("::")[:-1]
+    folder = ROOT / "crates" / crate / "src"
+    files = [folder / "/".join(modules[:count]) for count in range(len(modules), 0, -1)]
+    return next((file for file in (one.with_suffix(".rt") for one in files) if file.is_file()), folder / "lib.rt").read_text()
 
 
 def lists():
@@ -183,8 +194,8 @@ def lists():
 
 
 def accesses_counted():
-    """Only cells::get and cells::put reach an element of a slice of u64, one each, but for the lists of requests and answers."""
-    return accesses.faults(all_code(), ACCESSES, lists(), HOST_FUNCTIONS, crates())
+    """Only the two reads of a cell and Table::put reach an element of a slice of u64, one each, but for the lists of requests and answers."""
+    return accesses.faults(all_code(), ACCESSES, {f"{BOOK}::new"}, {TABLE, BOOK}, lists(), HOST_FUNCTIONS)
 
 
 def differences(said, faults):
@@ -194,46 +205,65 @@ def differences(said, faults):
     return wrong + [f"said: {one}" for one in said if one.split()[0].removeprefix("sample::") not in faults]
 
 
+def of_sample(*names):
+    """The names of functions and types of an example."""
+    return {f"sample::{name}" for name in names}
+
+
 def access_check_catches():
     """The check of accesses catches each function of its example that reaches elements or hides a slice, and no other."""
     bodies = code_of(accesses.SAMPLE)
     gets = {name for name in bodies if name.startswith("sample::gets")}
-    wrong = differences(accesses.faults(bodies, gets, accesses.SAMPLE_LISTS, set(), {"sample"}), accesses.FAULTS)
-    if list(accesses.lent_outside(bodies["sample::lends_a_part"], {"other"})) != ["sample::count"]:
-        wrong.append("lends_a_part: to whom it lends is not seen")
-    return wrong
+    gets |= of_sample("RefSliceU64Cells::cell", "RefMutSliceU64Cells::cell", "Table+mut+slice+u64::put")
+    return differences(accesses.faults(bodies, gets, of_sample("Table::new"), of_sample("Table"), accesses.SAMPLE_LISTS, set()), accesses.FAULTS)
 
 
 def part_of(name):
     """The part that a function plays in counting accesses; serve_both hands out no count (docs/CLAIMS.md), the player is no part of the library."""
     crate = name.split("::")[0]
-    parts = {"arena": "opens", "sequence": "adds", "sequence::serve_both": "free", "capi": "asks", "capi_c": "asks", "breatharena": "host"}
-    parts |= dict.fromkeys(crates()["arena"], "counts")
+    parts = {"arena": "tells", "sequence": "adds", "sequence::serve_both": "free", "capi": "asks", "capi_c": "asks", "breatharena": "host"}
+    parts |= dict.fromkeys(crates()["arena"], "counts") | dict.fromkeys(REQUESTS, "opens")
     return parts.get(name) or parts.get(crate, crate)
 
 
 def counts_kept():
-    """The number of accesses that a request hands out is the count that cells::get and cells::put kept."""
-    return counts.faults(all_code(), part_of, "cells::count", ACCESSES, {"arena::Counted", "sequence::Served"})
+    """The number of accesses that a request hands out is the count that Table::get and Table::put kept."""
+    return counts.faults(all_code(), part_of, {TABLE}, {BOOK}, CELLS, {REPLY}, THROUGH_A_BOUND)
+
+
+def part_in_sample(name):
+    """The part that a function of the example of the check of counts plays: the first word of its name; a closure plays that of its function."""
+    words = name.split("::")
+    word = (words[2] if words[1] == "fn" else words[1].split("+")[0]).split("_")[0]
+    return {"Table": "counts", "Book": "counts", "Lax": "counts", "Slack": "counts", "Idle": "counts", "Loose": "counts", "Counted": "tells", "CountedClone": "tells"}.get(word, word)
 
 
 def count_check_catches():
     """The check of counts catches each function of its example that counts wrongly, and no other."""
-    bodies = code_of(counts.SAMPLE)
-    gets = {name for name in bodies if name.startswith("sample::counts_get")}
-    said = counts.faults(bodies, lambda name: name.split("::")[1].split("_")[0], "sample::counts_one", gets, {"sample::Counted", "sample::Summed"})
+    tables = of_sample("Table", "Lax", "Slack", "Idle")
+    said = counts.faults(code_of(counts.SAMPLE), part_in_sample, tables, of_sample("Book", "Loose"), of_sample("RefSliceU64Cells::cell", "RefMutSliceU64Cells::cell"),
+                         of_sample("Counted"), {f"{table}::get" for table in tables} | of_sample("CountedClone::clone"))
     return differences(said, counts.FAULTS)
 
 
 def only_needed_lent():
-    """A request lends the functions that count exactly the needed cells, as their contracts ask; a contract that does not ask it is seen."""
+    """A request makes its book over exactly the needed cells of its own m; a contract that does not ask or promise it is seen."""
     bodies = all_code()
-    wrong = needed.faults(bodies, part_of, source_of)
-    for what, old, new in needed.EDITS:
-        said = needed.faults(bodies, part_of, lambda name: re.sub(old, new, source_of(name)) if part_of(name) == "counts" else source_of(name))
-        if len(said) != 6:
+    made = f"{BOOK}::new"
+    wrong = needed.faults(bodies, REQUESTS, made, "terms::arenas::Arena::cells", source_of)
+    for what, clause, old, new in needed.EDITS:
+        said = needed.faults(bodies, REQUESTS, made, "terms::arenas::Arena::cells", lambda name: re.sub(old, new, source_of(name)) if (name == made) == (clause is needed.ASKED) else source_of(name))
+        if len(said) != len(REQUESTS):
             wrong.append(f"not seen in all six requests: {what}")
     return wrong
+
+
+def needed_check_catches():
+    """The check of needed cells catches each function of its example that makes its book over other cells or in another arena, and no other."""
+    bodies = code_of(needed.SAMPLE)
+    said = [fault for name, body in bodies.items() for fault in needed.request_faults(name, body, "sample::Book::new", "sample::Arena::cells", lambda called: called == "sample::admit",
+                                                                                      needed.names(needed.SAMPLE, name.split("::")[-1]))]
+    return differences(said, needed.FAULTS)
 
 
 def interface(source):
@@ -354,7 +384,7 @@ def readme_example_holds():
 # two lanes, side by side: the checks over the texts and the code, with the tests of the tests; the tests of what is built
 LANES = [
     [claims_hold, claims_check_catches, layout_kept, no_holes, readers_agree, accesses_counted, access_check_catches, counts_kept, count_check_catches,
-     only_needed_lent, exports_repeat, model_tested, tests_catch],
+     only_needed_lent, needed_check_catches, exports_repeat, model_tested, tests_catch],
     [c_example_runs, c_interface_agrees, player_agrees, worked_run_printed, readme_example_holds],
 ]
 
