@@ -1276,6 +1276,7 @@ FAULTS = {
     "asks_twice": "makes more than one request",
     "asks_twice_through_another": "makes more than one request",
     "asks_by_a_value": "hands on sample::sample++asks_of+FnOnce::call_once, which makes a request",
+    "sample++asks_of+FnOnce::call_once": "counts, and plays no part that is known",
     "asks_by_a_pointer": "takes the address of a function",
     "free_and_calls_through_a_bound": "calls a function that the call does not name",
     "free_and_hands_it_on": "returns a reply with its count, and neither opens a count nor adds counts up",

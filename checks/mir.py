@@ -99,7 +99,137 @@ pub fn picked(t: &mut [u64]) -> u64 {
     set(t, 4);
     pick(1, sum(t), true)
 }
+
+#[derive(Clone, Copy, PartialEq, Eq, Default)]
+pub struct Sums {
+    pub live: u64,
+    pub held: u64,
+}
+
+#[derive(Clone, Copy)]
+pub enum Why {
+    Large(u64),
+    Small,
+}
+
+pub trait Lends: Drop {
+    fn cell(&self, at: usize) -> u64;
+}
+
+impl<'a> Lends for &'a [u64] {
+    fn cell(&self, at: usize) -> u64 {
+        if at < self.len() { self[at] } else { 0 }
+    }
+}
+
+impl<'a> Lends for &'a mut [u64] {
+    fn cell(&self, at: usize) -> u64 {
+        if at < self.len() { self[at] } else { 0 }
+    }
+}
+
+#[derive(Drop)]
+pub struct Table<C: Lends> {
+    cells: C,
+    spent: u64,
+}
+
+impl<C: Lends> Table<C> {
+    pub fn new(cells: C) -> Table<C> {
+        Table { cells, spent: 0 }
+    }
+
+    pub fn get(&mut self, at: usize) -> u64 {
+        self.spent = self.spent.wrapping_add(1);
+        self.cells.cell(at)
+    }
+}
+
+impl<'a> Table<&'a mut [u64]> {
+    pub fn put(&mut self, at: usize, v: u64) {
+        if at < self.cells.len() {
+            self.cells[at] = v;
+        }
+    }
+}
+
+fn pair(t: &[u64]) -> ([u64; 2], u64) {
+    let mut table = Table::new(t);
+    let x = table.get(1);
+    ([x, 2], table.spent)
+}
+
+pub fn opened(t: &mut [u64], m: u64) -> Result<u64, Why> {
+    let k = found(t, m).ok_or(Why::Small)?;
+    let mut table = Table::new(t);
+    table.put(0, k);
+    Ok(table.get(1))
+}
+
+fn found(t: &[u64], m: u64) -> Option<u64> {
+    let ([first, ..], second) = pair(t);
+    if first < m { Some(second) } else { None }
+}
+
+pub fn low(bits: u64) -> Option<u64> {
+    (0..64).find(|i| bits >> i == 1)
+}
+
+pub fn walked(t: &[u64]) -> u64 {
+    let mut all = Sums::default();
+    for x in t {
+        all.live = all.live.wrapping_add(*x);
+    }
+    for h in 0..=7 {
+        all.held ^= h;
+    }
+    if all == Sums::default() { 1 } else { all.live.min(all.held) }
+}
+
+pub fn cleared(t: &mut [u64]) {
+    for x in t.iter_mut() {
+        *x = 0;
+    }
+}
+
+pub fn told(why: Why) -> u64 {
+    let Why::Large(n) = why else {
+        return 0;
+    };
+    n
+}
+
+pub struct Buffer<const N: usize> {
+    bytes: [u8; N],
+    count: usize,
+}
+
+impl<const N: usize> Buffer<N> {
+    pub fn held(&self) -> usize {
+        if self.count < N { self.count } else { N }
+    }
+}
+
+fn apply<F: FnOnce(u64) -> u64>(n: u64, f: F) -> u64
+    requires { F.IsAlwaysCallable f }
+{
+    f(n)
+}
+
+pub fn applied(n: u64) -> u64 {
+    apply(n, |k| k ^ n)
+}
+
+fn half(n: u64) -> u64 {
+    n / 2
+}
+
+pub fn halved(n: u64) -> Option<u64> {
+    Some(n).map(half)
+}
 """
+# how many functions are read of it: those that it writes, and those that the toolchain makes of closures and derived traits
+SAMPLE_COUNT = 38
 
 # ---- both readers
 
@@ -336,6 +466,8 @@ class Text:
             parts[2] = parts[2][1]
         if name == "tyStruct":
             parts[0] = spelled(parts[0])
+        if name == "tyArrayP":
+            return ["tyArray", parts[0], ["tyParam", parts[1]]]
         if name == "tyNamed":
             parts[0] = ["pair", spelled(parts[0][1]), parts[0][2]]
             parts = parts if parts[1] != "lnil" else parts[:1]

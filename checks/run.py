@@ -146,7 +146,7 @@ def readers_agree():
         proved = dict(mir.of_text(Path(folder) / "generated"))
     wrong = [f"in one alone: {name}" for name in sorted(set(compiled) ^ set(proved))]
     wrong += [f"not the same: {name}" for name in sorted(set(compiled) & set(proved)) if compiled[name] != proved[name]]
-    return wrong + ([f"{len(compiled)} functions were read"] if len(compiled) != mir.SAMPLE.count("fn ") else [])
+    return wrong + ([f"{len(compiled)} functions were read"] if len(compiled) != mir.SAMPLE_COUNT else [])
 
 
 # The table that counts, the book that has it, and the functions that make an access to the table each.
