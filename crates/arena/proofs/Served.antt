@@ -10,23 +10,21 @@ use Rattle.meaning.specs.Answers.{Request, refused}
 use Rattle.meaning.specs.Blocks.{Live}
 use Rattle.table.proofs.OneTable.{stands_taken}
 use Rattle.table.specs.Table.{Stands, need}
-use Rattle.terms.specs.Reply.{as_answer}
-use Rattle.terms.specs.declared.Reply.{Reply}
 use Rattle.arena.proofs.Refused.{Promised, Suits, number_of}
 use Rattle.arena.specs.Promises.{Formed, InOrder, Kept, RefusalAlone, Right, at_once, later}
 
 -- what is answered where nothing is refused at once: the later refusal, with the table as it was, or a result
-pub data Settled (q : Request) (t t' : List ℕ) (r : Reply) : Type 0 where
-  refused_later : 0 < later q → as_answer r ≡ refused (later q) → t' ≡ t → Settled q t t' r
+pub data Settled (q : Request) (t t' : List ℕ) (r : Answer) : Type 0 where
+  refused_later : 0 < later q → r ≡ refused (later q) → t' ≡ t → Settled q t t' r
   granted : r.refusal ≡ 0 → Formed q r → Settled q t t' r
 
 -- the refusals are in order
-pub settled_in_order : {m : ℕ} {q : Request} {t p p' : List ℕ} {r : Reply} → at_once t m q ≡ 0 → Settled q p p' r → InOrder m q t r
+pub settled_in_order : {m : ℕ} {q : Request} {t p p' : List ℕ} {r : Answer} → at_once t m q ≡ 0 → Settled q p p' r → InOrder m q t r
 settled_in_order {r = r} z (refused_later p e f) = record { told_at_once = λ x. absurd (omega arith); or_later = λ x. inr (number_of r e); formed = λ x. absurd (omega (arith, number_of r e)) }
 settled_in_order z (granted e g) = record { told_at_once = λ x. absurd (omega arith); or_later = λ x. inl e; formed = λ x. g }
 
 -- a refusal stands alone, if the whole is as it was where the part is
-pub settled_alone : {q : Request} {t t' p p' : List ℕ} {r : Reply} → (p' ≡ p → t' ≡ t) → Settled q p p' r → RefusalAlone t t' r
+pub settled_alone : {q : Request} {t t' p p' : List ℕ} {r : Answer} → (p' ≡ p → t' ≡ t) → Settled q p p' r → RefusalAlone t t' r
 settled_alone {r = r} w (refused_later p e f) = record { values = λ x. e ∙ ap refused (sym (number_of r e)); cells = λ x. w f }
 settled_alone w (granted e g) = record { values = λ x. absurd (omega arith); cells = λ x. absurd (omega arith) }
 
@@ -61,7 +59,7 @@ module _ {m : ℕ} (t : List ℕ) (s : Suits m (length t)) (k : ℕ) (e : k ≡ 
         (subst (λ (y : List ℕ). Stands m L y) (sym (take_at p (drop k t) (need m) (l ∙ part_long))) x)
 
     -- what is promised of the part is promised of the whole
-    pub served : {q : Request} (r : Reply) → at_once t m q ≡ 0 → Settled q (take k t) p r → Right m q (take k t) p r → Promised m q t (p ++ drop k t) r
+    pub served : {q : Request} (r : Answer) → at_once t m q ≡ 0 → Settled q (take k t) p r → Right m q (take k t) p r → Promised m q t (p ++ drop k t) r
     served r z f g = record {
       in_order = settled_in_order z f;
       alone = settled_alone whole_same f;
@@ -70,5 +68,5 @@ module _ {m : ℕ} (t : List ℕ) (s : Suits m (length t)) (k : ℕ) (e : k ≡ 
     }
 
   -- and so it is where the table is only read
-  pub served_reading : {q : Request} (r : Reply) → at_once t m q ≡ 0 → Settled q (take k t) (take k t) r → Right m q (take k t) (take k t) r → Promised m q t t r
+  pub served_reading : {q : Request} (r : Answer) → at_once t m q ≡ 0 → Settled q (take k t) (take k t) r → Right m q (take k t) (take k t) r → Promised m q t t r
   served_reading {q} r z f g = subst (λ (x : List ℕ). Promised m q t x r) (take-append-drop k t) (served (take k t) refl r z f g)
