@@ -1,13 +1,5 @@
 -- What may be added to an allowed set of live blocks, and what may be taken away. Assumes nothing.
-use mathlib.Core.Path.{◌∙◌, ◌≡◌, refl, sym}
-use mathlib.Core.Logic.{◌⊎◌, inl, inr, ⊎_elim}
-use mathlib.Core.Bool.{Bool, ◌&&◌, ◌||◌, cond, false, true}
-use mathlib.Core.List.{[], ◌∷◌}
-use Prim.Native.Nat.{◌*◌, ◌+◌, ◌/◌, ◌<◌, ◌≤◌, ℕ}
-use borrow.Author.Tests.{eqb-true, leb-false, leb-true}
-use lib.Dec.{eqb, leb}
-use lib.Pow.{pow_pos}
-use native.Mathlib.Omega.{arith}
+use Rattle.std.proofs.Common.{Bool, [], ◌&&◌, ◌*◌, ◌+◌, ◌/◌, ◌<◌, ◌||◌, ◌∙◌, ◌∷◌, ◌≡◌, ◌≤◌, ◌⊎◌, arith, cond, eqb, eqb-true, false, inl, inr, leb, leb-false, leb-true, pow_pos, refl, sym, true, ℕ, ⊎_elim}
 use Rattle.meaning.specs.Answers.{clear, insert, remove, serves, starts_at}
 use Rattle.meaning.specs.Blocks.{Allowed, Before, BeforeAll, Block, IsBlock, Live, allowed_none, allowed_some, before_none, before_some, ends, is_large, is_slot, page_bytes, pages, slot, slots, small}
 use Rattle.meaning.specs.Search.{any, every}

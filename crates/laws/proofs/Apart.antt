@@ -1,12 +1,7 @@
 -- What a reader may rely on of an allowed set of live blocks: its blocks are pairwise apart, inside the arena and aligned. Assumes nothing.
-use mathlib.Core.Path.{◌∙◌, ◌≡◌, ap, subst, sym}
-use mathlib.Core.Logic.{◌⊎◌, inl, inr}
-use mathlib.Core.List.Memᴰ
+use Rattle.std.proofs.Common.{◌%◌, ◌*◌, ◌-◌, ◌^◌, ◌∙◌, ◌≡◌, ◌≤◌, ◌⊎◌, ap, arith, inl, inr, mul-le-mul_right, pow-add, subst, suc-mul, sym, ℕ}
 use mathlib.Core.List.{Memᴰ}
-use Prim.Native.Nat.{◌%◌, ◌*◌, ◌-◌, ◌^◌, ◌≤◌, ℕ}
-use lib.Pow.{pow-add}
-use native.Mathlib.Nat.{mul-le-mul_right, suc-mul}
-use native.Mathlib.Omega.{arith}
+use mathlib.Core.List.Memᴰ
 use Rattle.meaning.specs.Blocks.{Allowed, BeforeAll, Block, IsBlock, Live, alignment, allowed_none, allowed_some, arena, before_none, before_some, ends, is_large, is_slot}
 use Rattle.laws.proofs.Aligned.{block_aligned}
 use Rattle.laws.proofs.Sizes.{slot_in}

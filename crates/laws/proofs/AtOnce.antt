@@ -1,12 +1,6 @@
 -- What is refused at once is what the meaning refuses. Assumes nothing.
-use mathlib.Core.Path.{◌≡◌, refl}
-use mathlib.Core.Logic.{◌⊎◌, inl, inr}
-use mathlib.Core.Bool.{Bool, cond, false, true}
-use mathlib.Core.Option.{none, some}
-use Prim.Native.Nat.{◌<◌, ◌≤◌, ℕ}
-use borrow.Author.Tests.{eqb-true, leb-true, ltb-true}
-use lib.Dec.{eqb, leb, ltb}
-use native.Mathlib.Omega.{arith}
+use Rattle.std.proofs.Common.{Bool, ◌<◌, ◌≡◌, ◌≤◌, ◌⊎◌, arith, cond, eqb, eqb-true, false, inl, inr, leb, leb-true, ltb, ltb-true, refl, true, ℕ}
+use Rattle.std.proofs.Math.Option.{none, some}
 use Rattle.meaning.specs.Answers.{Request, answer, bad_argument, check_up, figures, give_back, holds, offset, or_refuse, place, refused, refused_at_once, reply, start, starts_at, take, which}
 use Rattle.meaning.specs.Blocks.{Allowed, Block, Live, allowed_none, allowed_some, arena, ends, m_most}
 use Rattle.meaning.specs.Search.{find}

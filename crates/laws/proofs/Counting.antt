@@ -1,11 +1,6 @@
 -- Laws of counting the numbers that pass a test, and of sums over numbers. Nothing here is about memory. Assumes nothing.
-use mathlib.Core.Path.{◌∙◌, ◌≡◌, ap, ap₂, refl, sym}
-use mathlib.Core.Bool.{Bool, ◌&&◌, ◌||◌, cond, false, not, true}
-use Prim.Native.Nat.{◌*◌, ◌+◌, ◌-◌, ◌<◌, ◌≤◌, suc, zero, ℕ}
-use borrow.Author.Tests.{le-leb, le-ltb, lt-leb, lt-ltb}
-use lib.Dec.{leb, ltb}
-use native.Mathlib.Nat.{add_assoc, add-suc, add-zero, mul-add, mul-one, mul-suc, mul-zero, suc-add, zero-add}
-use native.Mathlib.Omega.{arith}
+use Rattle.std.proofs.Common.{Bool, ◌&&◌, ◌*◌, ◌+◌, ◌-◌, ◌<◌, ◌||◌, ◌∙◌, ◌≡◌, ◌≤◌, add_assoc, add-suc, add-zero, ap, ap₂, arith, cond, false, le-leb, le-ltb, leb, lt-ltb, ltb, mul-add, mul-one, mul-suc, mul-zero, not, refl, suc, suc-add, sym, true, zero, zero-add, ℕ}
+use Rattle.std.proofs.lemmas.Bool.{lt-leb}
 use Rattle.meaning.specs.Bytes.{of_four, total}
 use Rattle.meaning.specs.Search.{count}
 use Rattle.laws.proofs.Logic.{and_false}

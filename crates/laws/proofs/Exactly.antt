@@ -1,14 +1,7 @@
 -- What changes: a granted take adds exactly its block, a granted give back removes exactly the block that starts there, once; a refusal changes nothing.
 -- Assumes nothing.
-use mathlib.Core.Path.{◌∙◌, ◌≡◌, ap, refl, subst, sym}
-use mathlib.Core.Logic.{◌⊎◌, inl, inr}
-use mathlib.Core.Bool.{Bool, ◌||◌, cond, false, true}
-use mathlib.Core.Option.{Option, none, some}
-use mathlib.Core.List.{[], ◌++◌, ◌∷◌}
-use Prim.Native.Nat.{◌*◌, ◌<◌, ◌^◌, ◌≤◌, suc, ℕ}
-use borrow.Author.Tests.{eqb-true, leb-true, ne_eqb}
-use lib.Dec.{eqb, leb, ltb}
-use native.Mathlib.Omega.{arith}
+use Rattle.std.proofs.Common.{Bool, [], ◌*◌, ◌++◌, ◌<◌, ◌^◌, ◌||◌, ◌∙◌, ◌∷◌, ◌≡◌, ◌≤◌, ◌⊎◌, ap, arith, cond, eqb, eqb-true, false, inl, inr, leb, leb-true, ltb, ne_eqb, refl, subst, suc, sym, true, ℕ}
+use Rattle.std.proofs.Math.Option.{Option, none, some}
 use Rattle.meaning.specs.Answers.{Answer, Request, after, answer, check_up, done, figures, give_back, insert, insert_some, k_for, offset, or_refuse, place, refused, remove, size_for, start, starts_at, take, which}
 use Rattle.meaning.specs.Blocks.{Allowed, BeforeAll, Block, IsBlock, Live, allowed_none, allowed_some, arena, before_none, before_some, ends, page_bytes, size_count, small}
 use Rattle.meaning.specs.Candidates.{Candidate, in_free_page, in_run, in_served}

@@ -1,9 +1,6 @@
 -- Searches of joined lists, and what is clear in them. Assumes nothing.
-use mathlib.Core.Path.{◌≡◌, refl}
-use mathlib.Core.Bool.{Bool, ◌&&◌, ◌||◌, cond, false, true}
-use mathlib.Core.Option.{some}
-use mathlib.Core.List.{[], ◌++◌, ◌∷◌}
-use Prim.Native.Nat.{ℕ}
+use Rattle.std.proofs.Common.{Bool, [], ◌&&◌, ◌++◌, ◌||◌, ◌∷◌, ◌≡◌, cond, false, refl, true, ℕ}
+use Rattle.std.proofs.Math.Option.{some}
 use Rattle.meaning.specs.Answers.{clear, remove, starts_at}
 use Rattle.meaning.specs.Blocks.{Block, Live}
 use Rattle.meaning.specs.Search.{any, every, find, or_else}

@@ -1,12 +1,6 @@
 -- Small laws of tests, and of what a search found. Assumes nothing.
-use mathlib.Core.Path.{◌≡◌, refl, sym}
-use mathlib.Core.Logic.{◌⊎◌, inl, inr, ⊎_elim}
-use mathlib.Core.Bool.{Bool, ◌&&◌, ◌||◌, false, not, true}
-use mathlib.Core.Option.{Option, none, some}
-use Prim.Native.Nat.{◌<◌, ◌≤◌, ℕ}
-use borrow.Author.Tests.{leb-false, leb-true}
-use lib.Dec.{leb}
-use native.Mathlib.Omega.{arith}
+use Rattle.std.proofs.Common.{Bool, ◌&&◌, ◌<◌, ◌||◌, ◌≡◌, ◌≤◌, ◌⊎◌, arith, false, inl, inr, leb, leb-false, leb-true, not, refl, sym, true, ℕ, ⊎_elim}
+use Rattle.std.proofs.Math.Option.{Option, none, some}
 use Rattle.meaning.specs.Search.{bind, has, or_else}
 
 -- a test passes or fails, with the equation

@@ -1,11 +1,6 @@
 -- What a search finds: the first number that passes, and none only where none does. Assumes nothing.
-use mathlib.Core.Path.{◌≡◌, refl, sym}
-use mathlib.Core.Logic.{◌⊎◌, inl, inr, ⊎_elim}
-use mathlib.Core.Bool.{Bool, cond, false, true}
-use mathlib.Core.Option.{Option, none, some}
-use Prim.Native.Nat.{◌+◌, ◌<◌, ◌≤◌, suc, zero, ℕ}
-use native.Mathlib.Nat.{add-suc, add-zero, eq-or-lt_of_le, suc-add, zero-add}
-use native.Mathlib.Omega.{arith}
+use Rattle.std.proofs.Common.{Bool, ◌+◌, ◌<◌, ◌≡◌, ◌≤◌, ◌⊎◌, add-suc, add-zero, arith, cond, eq-or-lt_of_le, false, inl, inr, refl, suc, suc-add, sym, true, zero, zero-add, ℕ, ⊎_elim}
+use Rattle.std.proofs.Math.Option.{Option, none, some}
 use Rattle.meaning.specs.Search.{lowest, or_else}
 use Rattle.laws.proofs.Logic.{contra, le_or_lt, no_some, split}
 

@@ -1,13 +1,7 @@
 -- The ten sizes: section 2's table, and the rules that each size keeps, each proved by one test of the whole table. Assumes nothing.
-use mathlib.Core.Path.{◌≡◌, refl}
-use mathlib.Core.Logic.{⊎_elim}
-use mathlib.Core.Bool.{Bool, not, true}
-use mathlib.Core.Option.{none}
-use Prim.Native.Nat.{◌*◌, ◌+◌, ◌-◌, ◌/◌, ◌<◌, ◌≤◌, suc, zero, ℕ}
-use borrow.Author.Tests.{leb-true, ltb-true, not-false}
-use lib.Dec.{leb, ltb}
-use native.Mathlib.Nat.{div-mul-le_self, eq-or-lt_of_le, le-div_iff_mul-le, le_of_suc-le-suc, mul-le-mul_right, suc-mul}
-use native.Mathlib.Omega.{arith}
+use Rattle.std.proofs.Common.{Bool, ◌*◌, ◌+◌, ◌-◌, ◌/◌, ◌<◌, ◌≡◌, ◌≤◌, arith, div-mul-le_self, eq-or-lt_of_le, le-div_iff_mul-le, le_of_suc-le-suc, leb, leb-true, ltb, ltb-true, mul-le-mul_right, not, refl, suc, suc-mul, true, zero, ℕ, ⊎_elim}
+use Rattle.std.proofs.Math.Option.{none}
+use Rattle.std.proofs.lemmas.Bool.{not-false}
 use Rattle.meaning.specs.Blocks.{page_bytes, size_count, slots, small, small_most}
 use Rattle.meaning.specs.Search.{least, lowest}
 use Rattle.laws.proofs.Logic.{le_or_lt}
