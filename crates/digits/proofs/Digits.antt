@@ -1,16 +1,9 @@
 -- The laws of digits: two numbers with the same digits are equal; one digit set or cleared; either of two numbers' digits; all digits turned
 -- over; how many are 1. Assumes nothing.
-use mathlib.Core.Path.{◌∙◌, ◌≡◌, ap, refl, sym}
-use mathlib.Core.Logic.{◌≢◌, ◌⊎◌, inl, inr, ⊎_elim}
-use mathlib.Core.Bool.{◌||◌, false, not, true}
-use Prim.Native.Nat.{◌%◌, ◌*◌, ◌+◌, ◌-◌, ◌/◌, ◌<◌, ◌^◌, ◌≤◌, max, suc, zero, ℕ}
-use borrow.Author.Tests.{eq-eqb, eqb-false, eqb-true, ne_eqb}
-use lib.Bits.{bit_or, or_step}
-use lib.Dec.{eqb, eqb-suc-suc, eqb-suc-zero, eqb-zero-suc}
-use lib.Pow.{pow_pos, shr-shr}
-use native.Mathlib.Nat.{eq-or-lt_of_le, pow-suc}
-use native.Mathlib.Numerals.{one-add, sub-one}
-use native.Mathlib.Omega.{arith}
+use Rattle.std.proofs.Common.{◌%◌, ◌*◌, ◌+◌, ◌-◌, ◌/◌, ◌<◌, ◌^◌, ◌||◌, ◌∙◌, ◌≡◌, ◌≢◌, ◌≤◌, ◌⊎◌, ap, arith, bit_or, eq-eqb, eq-or-lt_of_le, eqb, eqb-true, false, inl, inr, max, ne_eqb, not, one-add, pow_pos, pow-suc, refl, shr-shr, sub-one, suc, sym, true, zero, ℕ, ⊎_elim}
+use Rattle.std.proofs.Math.Dec.{eqb-suc-suc, eqb-suc-zero, eqb-zero-suc}
+use Rattle.std.proofs.lemmas.Bool.{eqb-false}
+use Rattle.std.specs.Int.Bits.{or_step}
 use Rattle.laws.proofs.Logic.{contra, le_or_lt, split}
 use Rattle.digits.specs.Digits.{First, bit_at, ones}
 
