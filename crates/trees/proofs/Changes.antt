@@ -1,15 +1,7 @@
 -- What the replacement of one part of a tree does to its blocks: one is inserted or removed. Assumes nothing.
-use mathlib.Core.Path.{◌∙◌, ◌≡◌, ap, ap₂, refl, subst, sym}
-use mathlib.Core.Logic.{◌⊎◌, inl, inr}
-use mathlib.Core.Bool.{Bool, cond, false, true}
-use mathlib.Core.Option.{Option, none, some}
-use mathlib.Core.List.{[], ◌++◌, ◌∷◌}
-use Prim.Native.Nat.{◌*◌, ◌+◌, ◌<◌, ◌^◌, ◌≤◌, suc, zero, ℕ}
-use borrow.Author.Tests.{eq-eqb, le-leb, lt-leb, ne_eqb}
-use lib.Dec.{leb}
-use lib.Pow.{pow_pos}
-use native.Mathlib.Nat.{add-mul, mul-le-mul_right, pow-suc, suc-mul}
-use native.Mathlib.Omega.{arith}
+use Rattle.std.proofs.Common.{Bool, [], ◌*◌, ◌++◌, ◌+◌, ◌<◌, ◌^◌, ◌∙◌, ◌∷◌, ◌≡◌, ◌≤◌, ◌⊎◌, add-mul, ap, ap₂, arith, cond, eq-eqb, false, inl, inr, le-leb, leb, mul-le-mul_right, ne_eqb, pow_pos, pow-suc, refl, subst, suc, suc-mul, sym, true, zero, ℕ}
+use Rattle.std.proofs.Math.Option.{Option, none, some}
+use Rattle.std.proofs.lemmas.Bool.{lt-leb}
 use Rattle.laws.proofs.Lists.{remove_append}
 use Rattle.laws.proofs.Logic.{and_left, and_right, contra, no_some, split}
 use Rattle.meaning.specs.Answers.{insert, remove, starts_at}

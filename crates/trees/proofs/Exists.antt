@@ -1,14 +1,7 @@
 -- Every allowed set of live blocks is that of a tree, and the blocks of a tree are allowed. Assumes nothing.
-use mathlib.Core.Path.{◌∙◌, ◌≡◌, ap, refl, subst, sym}
-use mathlib.Core.Logic.{⊎_elim}
-use mathlib.Core.Bool.{Bool, ◌&&◌, ◌||◌, cond, false, true}
-use mathlib.Core.List.{[], ◌++◌, ◌∷◌}
-use Prim.Native.Nat.{◌%◌, ◌*◌, ◌+◌, ◌-◌, ◌/◌, ◌<◌, ◌^◌, ◌≤◌, suc, zero, ℕ}
-use borrow.Author.Tests.{le-leb, not-true}
-use lib.Dec.{eqb, leb}
-use lib.Pow.{pow_pos}
-use native.Mathlib.Nat.{add-mul, mul_assoc, mul-one, pow-suc, pow-succ', zero-add, zero-mul}
-use native.Mathlib.Omega.{arith}
+use Rattle.std.proofs.Common.{Bool, [], ◌%◌, ◌&&◌, ◌*◌, ◌++◌, ◌+◌, ◌-◌, ◌/◌, ◌<◌, ◌^◌, ◌||◌, ◌∙◌, ◌∷◌, ◌≡◌, ◌≤◌, add-mul, ap, arith, cond, eqb, false, le-leb, leb, mul_assoc, mul-one, pow_pos, pow-suc, refl, subst, suc, sym, true, zero, zero-add, zero-mul, ℕ, ⊎_elim}
+use Rattle.std.proofs.Math.Nat.{pow-succ'}
+use Rattle.std.proofs.lemmas.Bool.{not-true}
 use Rattle.digits.proofs.Digits.{bit_zero, set_lt}
 use Rattle.digits.specs.Digits.{bit_at}
 use Rattle.laws.proofs.Allowing.{block_size, one_before}

@@ -1,14 +1,7 @@
 -- Give back and which on a tree: the block at an offset, and the tree without it. Assumes nothing.
-use mathlib.Core.Path.{◌∙◌, ◌≡◌, ap, refl, subst, sym}
-use mathlib.Core.Logic.{◌≢◌, ◌⊎◌, inl, inr, ⊎_elim}
-use mathlib.Core.Bool.{Bool, cond, false, not, true}
-use mathlib.Core.Option.{none, some}
-use mathlib.Core.List.{◌∷◌}
-use Prim.Native.Nat.{◌%◌, ◌*◌, ◌+◌, ◌/◌, ◌<◌, ◌^◌, ◌≤◌, suc, zero, ℕ}
-use borrow.Author.Tests.{eq-eqb, eqb-true, leb-true, ltb-true, ne_eqb}
-use lib.Dec.{eqb, leb, ltb}
-use native.Mathlib.Nat.{add-mul, add-suc, add-zero, mul_assoc, mul-one, pow-suc, pow-succ', suc-add, zero-add, zero-mul}
-use native.Mathlib.Omega.{arith}
+use Rattle.std.proofs.Common.{Bool, ◌%◌, ◌*◌, ◌+◌, ◌/◌, ◌<◌, ◌^◌, ◌∙◌, ◌∷◌, ◌≡◌, ◌≢◌, ◌≤◌, ◌⊎◌, add-mul, add-suc, add-zero, ap, arith, cond, eq-eqb, eqb, eqb-true, false, inl, inr, leb, leb-true, ltb, ltb-true, mul_assoc, mul-one, ne_eqb, not, pow-suc, refl, subst, suc, suc-add, sym, true, zero, zero-add, zero-mul, ℕ, ⊎_elim}
+use Rattle.std.proofs.Math.Nat.{pow-succ'}
+use Rattle.std.proofs.Math.Option.{none, some}
 use Rattle.digits.specs.Digits.{bit_at}
 use Rattle.laws.proofs.Allowing.{apart_of, clear_rest}
 use Rattle.laws.proofs.Lists.{find_append}

@@ -1,15 +1,7 @@
 -- A block found by its start, and its give back as the replacement of one part of the tree. Assumes nothing.
-use mathlib.Core.Path.{◌∙◌, ◌≡◌, ap, refl, subst, sym}
-use mathlib.Core.Logic.{◌≢◌, ◌⊎◌, inl, inr, ⊎_elim}
-use mathlib.Core.Bool.{Bool, cond, false, true}
-use mathlib.Core.Option.{none, some}
-use mathlib.Core.List.{[], ◌∷◌}
-use Prim.Native.Nat.{◌%◌, ◌*◌, ◌+◌, ◌-◌, ◌/◌, ◌<◌, ◌^◌, ◌≤◌, suc, zero, ℕ}
-use borrow.Author.Tests.{eq-eqb, ne_eqb}
-use lib.Dec.{eqb}
-use lib.Pow.{pow-lt, pow_pos}
-use native.Mathlib.Nat.{mul-div_cancel, mul-one, zero-add, zero-mul}
-use native.Mathlib.Omega.{arith}
+use Rattle.std.proofs.Common.{Bool, [], ◌%◌, ◌*◌, ◌+◌, ◌-◌, ◌/◌, ◌<◌, ◌^◌, ◌∙◌, ◌∷◌, ◌≡◌, ◌≢◌, ◌≤◌, ◌⊎◌, ap, arith, cond, eq-eqb, eqb, false, inl, inr, mul-div_cancel, mul-one, ne_eqb, pow_pos, refl, subst, suc, sym, true, zero, zero-add, zero-mul, ℕ, ⊎_elim}
+use Rattle.std.proofs.Math.Option.{none, some}
+use Rattle.std.proofs.Math.Pow.{pow-lt}
 use Rattle.digits.proofs.Digits.{bit_le, less_same}
 use Rattle.digits.specs.Digits.{bit_at}
 use Rattle.laws.proofs.Logic.{le_or_lt, no_some, split}

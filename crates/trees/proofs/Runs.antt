@@ -1,11 +1,5 @@
 -- The leftmost free run of a tree is the lowest one of its blocks. Assumes nothing.
-use mathlib.Core.Path.{◌∙◌, ◌≡◌, ap, ap₂, refl, subst}
-use mathlib.Core.Logic.{inl, inr}
-use mathlib.Core.List.{[], ◌++◌}
-use Prim.Native.Nat.{◌*◌, ◌+◌, ◌-◌, ◌<◌, ◌^◌, ◌≤◌, suc, zero, ℕ}
-use lib.Pow.{pow-add, pow_pos}
-use native.Mathlib.Nat.{add_comm, add-mul, mul-le-mul_right, pow-suc, suc-mul, zero-mul}
-use native.Mathlib.Omega.{arith}
+use Rattle.std.proofs.Common.{[], ◌*◌, ◌++◌, ◌+◌, ◌-◌, ◌<◌, ◌^◌, ◌∙◌, ◌≡◌, ◌≤◌, add_comm, add-mul, ap, ap₂, arith, inl, inr, mul-le-mul_right, pow-add, pow_pos, pow-suc, refl, subst, suc, suc-mul, zero, zero-mul, ℕ}
 use Rattle.laws.proofs.Lists.{clear_append}
 use Rattle.laws.proofs.Logic.{and_true}
 use Rattle.laws.proofs.Searches.{lowest_cong, lowest_isnt, lowest_parts}

@@ -1,13 +1,6 @@
 -- A page that is cut into slots: which are live, and what it serves. Assumes nothing.
-use mathlib.Core.Path.{◌∙◌, ◌≡◌, ap, refl, sym}
-use mathlib.Core.Logic.{◌≢◌, ◌⊎◌, inl, inr}
-use mathlib.Core.Bool.{Bool, cond, false, not, true}
-use mathlib.Core.List.{[], ◌∷◌}
-use Prim.Native.Nat.{◌%◌, ◌*◌, ◌+◌, ◌/◌, ◌<◌, ◌^◌, ◌≤◌, suc, zero, ℕ}
-use borrow.Author.Tests.{eq-eqb, eqb-false, le-leb, lt-leb, ne_eqb}
-use lib.Dec.{eqb}
-use native.Mathlib.Nat.{add-mul, add-suc, add-zero, pow-suc, suc-add, suc-mul}
-use native.Mathlib.Omega.{arith}
+use Rattle.std.proofs.Common.{Bool, [], ◌%◌, ◌*◌, ◌+◌, ◌/◌, ◌<◌, ◌^◌, ◌∙◌, ◌∷◌, ◌≡◌, ◌≢◌, ◌≤◌, ◌⊎◌, add-mul, add-suc, add-zero, ap, arith, cond, eq-eqb, eqb, false, inl, inr, le-leb, ne_eqb, not, pow-suc, refl, suc, suc-add, suc-mul, sym, true, zero, ℕ}
+use Rattle.std.proofs.lemmas.Bool.{eqb-false, lt-leb}
 use Rattle.digits.specs.Digits.{bit_at}
 use Rattle.laws.proofs.Logic.{and_false, split}
 use Rattle.laws.proofs.Sizes.{slot_in, small_pos}

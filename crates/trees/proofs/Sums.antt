@@ -1,14 +1,6 @@
 -- The figures of a tree are those of its blocks. Assumes nothing.
-use mathlib.Core.Path.{◌∙◌, ◌≡◌, ap, ap₂, refl, sym}
-use mathlib.Core.Logic.{◌⊎◌, inl, inr, ⊎_elim}
-use mathlib.Core.Bool.{Bool, ◌&&◌, ◌||◌, cond, false, not, true}
-use mathlib.Core.Option.{none, some}
-use mathlib.Core.List.{[], ◌++◌, ◌∷◌}
-use Prim.Native.Nat.{◌*◌, ◌+◌, ◌-◌, ◌<◌, ◌^◌, ◌≤◌, max, suc, zero, ℕ}
-use borrow.Author.Tests.{le-ltb, lt-ltb, ltb-false, ltb-true}
-use lib.Dec.{ltb}
-use native.Mathlib.Nat.{add_assoc, pow-suc, zero-add}
-use native.Mathlib.Omega.{arith}
+use Rattle.std.proofs.Common.{Bool, [], ◌&&◌, ◌*◌, ◌++◌, ◌+◌, ◌-◌, ◌<◌, ◌^◌, ◌||◌, ◌∙◌, ◌∷◌, ◌≡◌, ◌≤◌, ◌⊎◌, add_assoc, ap, ap₂, arith, cond, false, inl, inr, le-ltb, lt-ltb, ltb, ltb-false, ltb-true, max, not, pow-suc, refl, suc, sym, true, zero, zero-add, ℕ, ⊎_elim}
+use Rattle.std.proofs.Math.Option.{none, some}
 use Rattle.laws.proofs.Counting.{count_all, count_cong, count_parts}
 use Rattle.laws.proofs.Logic.{and_left, contra, has_bind, has_or, le_or_lt, split}
 use Rattle.meaning.specs.Answers.{clear, free, held_bytes, large_place, live_bytes, room_up_to}

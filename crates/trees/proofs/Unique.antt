@@ -1,14 +1,6 @@
 -- A set of live blocks is that of one tree only. Assumes nothing.
-use mathlib.Core.Path.{◌∙◌, ◌≡◌, ap, ap₂, refl, sym}
-use mathlib.Core.Logic.{⊎_elim}
-use mathlib.Core.Bool.{false, true}
-use mathlib.Core.List.{[], ◌++◌, ◌∷◌, cons≢nil, head-eq_of_cons-eq, nil≢cons, tail-eq_of_cons-eq}
-use Prim.Native.Nat.{◌+◌, ◌<◌, ◌^◌, suc, ℕ}
-use borrow.Author.Tests.{eqb-true, ne_eqb}
-use lib.Dec.{eqb}
-use lib.Pow.{pow_pos}
-use native.Mathlib.Nat.{pow-suc}
-use native.Mathlib.Omega.{arith}
+use Rattle.std.proofs.Common.{[], ◌++◌, ◌+◌, ◌<◌, ◌^◌, ◌∙◌, ◌∷◌, ◌≡◌, ap, ap₂, arith, eqb, eqb-true, false, ne_eqb, pow_pos, pow-suc, refl, suc, sym, true, ℕ, ⊎_elim}
+use mathlib.Core.List.{cons≢nil, head-eq_of_cons-eq, nil≢cons, tail-eq_of_cons-eq}
 use Rattle.digits.proofs.Digits.{bits_ext}
 use Rattle.digits.specs.Digits.{bit_at}
 use Rattle.laws.proofs.Logic.{contra, not_inj, split}
