@@ -1,9 +1,5 @@
 -- What each cell of a table that holds a tree says. Assumes nothing.
-use mathlib.Core.Path.{◌∙◌, ◌≡◌, ap}
-use mathlib.Core.List.{List}
-use Prim.Native.Nat.{◌*◌, ◌+◌, ◌<◌, ◌≤◌, suc, zero, ℕ}
-use lib.ListN.{get_or}
-use native.Mathlib.Omega.{arith}
+use Rattle.std.proofs.Common.{List, ◌*◌, ◌+◌, ◌<◌, ◌∙◌, ◌≡◌, ◌≤◌, ap, arith, get_or, suc, zero, ℕ}
 use Rattle.cells.proofs.Cell.{joined_packed, mask_packed, room_packed, tag_packed}
 use Rattle.cells.specs.Cell.{joined, mask_in, room_in, tag_in, tag_span}
 use Rattle.meaning.specs.Blocks.{pages}

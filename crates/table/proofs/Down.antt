@@ -1,15 +1,7 @@
 -- The way down: on any table whatever it stays below its node; on a table that holds a tree it finds the leftmost. Assumes nothing.
-use mathlib.Core.Path.{◌∙◌, ◌≡◌, ap, refl, sym}
-use mathlib.Core.Bool.{Bool, cond, false, true}
-use mathlib.Core.Option.{Option, none, some}
-use mathlib.Core.List.{List}
-use Prim.Native.Nat.{◌*◌, ◌+◌, ◌-◌, ◌<◌, ◌^◌, ◌≤◌, suc, zero, ℕ}
-use lib.Dec.{ltb}
-use lib.ListN.{get_or}
-use lib.Pow.{pow_mono}
-use native.Mathlib.Nat.{add-mul, mul_assoc, mul_comm, mul-le-mul_left, pow-suc, pow-succ'}
-use native.Mathlib.Numerals.{add-one}
-use native.Mathlib.Omega.{arith}
+use Rattle.std.proofs.Common.{Bool, List, ◌*◌, ◌+◌, ◌-◌, ◌<◌, ◌^◌, ◌∙◌, ◌≡◌, ◌≤◌, add-mul, add-one, ap, arith, cond, false, get_or, ltb, mul_assoc, mul_comm, mul-le-mul_left, pow_mono, pow-suc, refl, suc, sym, true, zero, ℕ}
+use Rattle.std.proofs.Math.Nat.{pow-succ'}
+use Rattle.std.proofs.Math.Option.{Option, none, some}
 use Rattle.cells.specs.Cell.{has_room_for, has_size}
 use Rattle.digits.specs.Digits.{bit_at}
 use Rattle.laws.proofs.Logic.{no_some}

@@ -1,9 +1,6 @@
 -- Sums over the nodes of a table: level by level is the same as node by node from the root down. Assumes nothing.
-use mathlib.Core.Path.{◌∙◌, ◌≡◌, ap, refl}
-use Prim.Native.Nat.{◌*◌, ◌+◌, ◌-◌, ◌<◌, ◌^◌, ◌≤◌, suc, zero, ℕ}
-use native.Mathlib.Nat.{add-zero, mul-suc, sub_self, zero-add}
-use native.Mathlib.Numerals.{add-one}
-use native.Mathlib.Omega.{arith}
+use Rattle.std.proofs.Common.{◌*◌, ◌+◌, ◌-◌, ◌<◌, ◌^◌, ◌∙◌, ◌≡◌, ◌≤◌, add-one, add-zero, ap, arith, mul-suc, refl, suc, zero, zero-add, ℕ}
+use Rattle.std.proofs.Math.Nat.{sub_self}
 use Rattle.meaning.specs.Bytes.{total}
 use Rattle.table.proofs.Parts.{next_level}
 use Rattle.table.specs.Sums.{levels_sum, tree_sum}

@@ -1,11 +1,5 @@
 -- Check-up's local tests: what it is to pass them. Assumes nothing.
-use mathlib.Core.Path.{◌∙◌, ◌≡◌, ap, refl, sym}
-use mathlib.Core.Logic.{⊎_elim}
-use mathlib.Core.Bool.{Bool, ◌&&◌, ◌||◌, cond, false, true}
-use Prim.Native.Nat.{◌+◌, ◌-◌, ◌<◌, ◌^◌, ◌≤◌, suc, ℕ}
-use borrow.Author.Tests.{eq-eqb, eqb-true, le-leb, leb-true, lt-ltb, ltb-true}
-use lib.Dec.{eqb, leb, ltb}
-use native.Mathlib.Omega.{arith}
+use Rattle.std.proofs.Common.{Bool, ◌&&◌, ◌+◌, ◌-◌, ◌<◌, ◌^◌, ◌||◌, ◌∙◌, ◌≡◌, ◌≤◌, ap, arith, cond, eq-eqb, eqb, eqb-true, false, le-leb, leb, leb-true, lt-ltb, ltb, ltb-true, refl, suc, sym, true, ℕ, ⊎_elim}
 use Rattle.cells.proofs.Cell.{tag_packed}
 use Rattle.cells.specs.Cell.{joined, packed, tag_in}
 use Rattle.digits.specs.Digits.{ones}

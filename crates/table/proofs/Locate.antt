@@ -1,16 +1,6 @@
 -- The way up to the first tag: on any table whatever it stays within its levels; on a table that holds a tree it finds what stands at a page. Assumes nothing.
-use mathlib.Core.Path.{◌∙◌, ◌≡◌, ap, refl, sym}
-use mathlib.Core.Logic.{◌≢◌, ◌⊎◌, inl, inr, ⊎_elim}
-use mathlib.Core.Bool.{Bool, cond, false, true}
-use mathlib.Core.List.{List}
-use Prim.Native.Nat.{◌%◌, ◌*◌, ◌+◌, ◌-◌, ◌/◌, ◌<◌, ◌^◌, ◌≤◌, suc, zero, ℕ}
-use borrow.Author.Tests.{eq-eqb, eqb-false, ne_eqb}
-use lib.Dec.{eqb}
-use lib.ListN.{get_or}
-use lib.Pow.{pow_pos, shr-shr}
-use native.Mathlib.Nat.{div-lt_iff_lt-mul, le-div_iff_mul-le, mul_assoc}
-use native.Mathlib.Numerals.{add-one}
-use native.Mathlib.Omega.{arith}
+use Rattle.std.proofs.Common.{Bool, List, ◌%◌, ◌*◌, ◌+◌, ◌-◌, ◌/◌, ◌<◌, ◌^◌, ◌∙◌, ◌≡◌, ◌≢◌, ◌≤◌, ◌⊎◌, add-one, ap, arith, cond, div-lt_iff_lt-mul, eq-eqb, eqb, false, get_or, inl, inr, le-div_iff_mul-le, mul_assoc, ne_eqb, pow_pos, refl, shr-shr, suc, sym, true, zero, ℕ, ⊎_elim}
+use Rattle.std.proofs.lemmas.Bool.{eqb-false}
 use Rattle.cells.specs.Cell.{tag_in}
 use Rattle.laws.proofs.Logic.{le_or_lt, split}
 use Rattle.trees.proofs.Runs.{span}

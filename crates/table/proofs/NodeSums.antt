@@ -1,16 +1,8 @@
 -- What a node of any table adds to the figures, its bounds, and the digits of a bitmap. Assumes nothing.
-use mathlib.Core.Path.{◌∙◌, ◌≡◌, ap, refl, sym}
-use mathlib.Core.Logic.{◌≢◌, ◌⊎◌, inl, inr}
-use mathlib.Core.Bool.{Bool, ◌&&◌, cond, false, true}
-use mathlib.Core.List.{List, ◌∷◌}
-use Prim.Native.Nat.{◌%◌, ◌*◌, ◌+◌, ◌-◌, ◌/◌, ◌<◌, ◌^◌, ◌≤◌, suc, zero, ℕ}
-use borrow.Author.Tests.{eqb-false, eqb-true, le-leb, lt-ltb, ne_eqb}
-use lib.Count.{ones_step}
-use lib.Dec.{eqb}
-use lib.ListN.{get_or}
-use lib.Pow.{pow-add, pow_pos}
-use native.Mathlib.Nat.{div-mul-le_self, mul_assoc, mul_comm, mul-le-mul_left, mul-suc, mul-zero, pow-succ'}
-use native.Mathlib.Omega.{arith}
+use Rattle.std.proofs.Common.{Bool, List, ◌%◌, ◌&&◌, ◌*◌, ◌+◌, ◌-◌, ◌/◌, ◌<◌, ◌^◌, ◌∙◌, ◌∷◌, ◌≡◌, ◌≢◌, ◌≤◌, ◌⊎◌, ap, arith, cond, count_ones, div-mul-le_self, eqb, eqb-true, false, get_or, inl, inr, le-leb, lt-ltb, mul_assoc, mul_comm, mul-le-mul_left, mul-suc, mul-zero, ne_eqb, pow-add, pow_pos, refl, suc, sym, true, zero, ℕ}
+use Rattle.std.proofs.Math.Nat.{pow-succ'}
+use Rattle.std.proofs.lemmas.Bool.{eqb-false}
+use Rattle.std.specs.Int.Count.{ones_step}
 use Rattle.cells.specs.Cell.{tag_in, whole_tag}
 use Rattle.digits.specs.Digits.{ones}
 use Rattle.laws.proofs.Logic.{split}
@@ -20,7 +12,6 @@ use Rattle.meaning.specs.Bytes.{total}
 use Rattle.trees.specs.Tree.{slot_blocks}
 use Rattle.table.proofs.LevelSums.{level_sum_le, levels_sum_le}
 use Rattle.table.specs.Sums.{by_tag, cut_live, is_cut, levels_sum, node_held, node_live}
-use lib.Count.{ones as count_ones}
 
 -- ---- what a node adds
 

@@ -1,11 +1,5 @@
 -- Nodes above nodes, and what a store leaves alone. Assumes nothing.
-use mathlib.Core.Path.{◌∙◌, ◌≡◌, ap, refl, sym}
-use mathlib.Core.List.{List}
-use Prim.Native.Nat.{◌*◌, ◌+◌, ◌/◌, ◌<◌, ◌^◌, ◌≤◌, suc, zero, ℕ}
-use lib.ListN.{get_or, length, length-set, set}
-use lib.Seq.{get_or-set_other}
-use native.Mathlib.Nat.{mul_assoc, pow-suc}
-use native.Mathlib.Omega.{arith}
+use Rattle.std.proofs.Common.{List, ◌*◌, ◌+◌, ◌/◌, ◌<◌, ◌^◌, ◌∙◌, ◌≡◌, ◌≤◌, ap, arith, get_or, get_or-set_other, length, length-set, mul_assoc, pow-suc, refl, set, suc, sym, zero, ℕ}
 use Rattle.trees.specs.Tree.{Tree}
 use Rattle.table.proofs.Cells.{enc_small}
 use Rattle.table.proofs.Nodes.{above_half}

@@ -1,14 +1,7 @@
 -- Tables and allowed sets of live blocks correspond one to one: a table stands for one set at most, a set has one table and no more, and
 -- only allowed sets have tables. Assumes nothing.
-use mathlib.Core.Path.{◌∙◌, ◌≡◌, ap, ap₂, refl, sym}
-use mathlib.Core.Logic.{◌↔◌, ⊎_elim}
-use mathlib.Core.List.{List}
-use Prim.Native.Nat.{◌*◌, ◌+◌, ◌-◌, ◌<◌, ◌^◌, ◌≤◌, suc, zero, ℕ}
-use lib.ListN.{get_or, length, length-take, take}
-use lib.Pow.{pow_mono, pow_pos}
-use lib.Seq.{ext_get_or, get_or-take}
-use native.Mathlib.Nat.{pow-succ'}
-use native.Mathlib.Omega.{arith}
+use Rattle.std.proofs.Common.{List, ◌*◌, ◌+◌, ◌-◌, ◌<◌, ◌^◌, ◌↔◌, ◌∙◌, ◌≡◌, ◌≤◌, ap, ap₂, arith, ext_get_or, get_or, get_or-take, length, length-take, pow_mono, pow_pos, refl, suc, sym, take, zero, ℕ, ⊎_elim}
+use Rattle.std.proofs.Math.Nat.{pow-succ'}
 use Rattle.digits.specs.Digits.{ones}
 use Rattle.laws.proofs.Logic.{le_or_lt}
 use Rattle.meaning.specs.Blocks.{Allowed, Live, m_most, slots}

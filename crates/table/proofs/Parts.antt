@@ -1,12 +1,7 @@
 -- The table of a tree as a function of it: each needed cell of a table that holds a tree, and a table that holds it. Assumes nothing.
-use mathlib.Core.Path.{◌∙◌, ◌≡◌, ap, refl, subst, sym}
-use mathlib.Core.Logic.{◌↔◌, ◌⊎◌, inl, inr, ⊎_elim}
-use mathlib.Core.List.{List}
-use Prim.Native.Nat.{◌%◌, ◌*◌, ◌+◌, ◌-◌, ◌/◌, ◌<◌, ◌^◌, ◌≤◌, suc, zero, ℕ}
-use borrow.Author.Tests.{le-leb, le-ltb, lt-leb, lt-ltb, ne_eqb}
-use lib.Pow.{pow_mono, pow_pos}
-use native.Mathlib.Nat.{pow-succ', sub_self}
-use native.Mathlib.Omega.{arith}
+use Rattle.std.proofs.Common.{List, ◌%◌, ◌*◌, ◌+◌, ◌-◌, ◌/◌, ◌<◌, ◌^◌, ◌↔◌, ◌∙◌, ◌≡◌, ◌≤◌, ◌⊎◌, ap, arith, inl, inr, le-leb, le-ltb, lt-ltb, ne_eqb, pow_mono, pow_pos, refl, subst, suc, sym, zero, ℕ, ⊎_elim}
+use Rattle.std.proofs.Math.Nat.{pow-succ', sub_self}
+use Rattle.std.proofs.lemmas.Bool.{lt-leb}
 use Rattle.laws.proofs.Logic.{le_or_lt}
 use Rattle.trees.proofs.Changes.{vacant_wf}
 use Rattle.trees.specs.Tree.{Tree, WF, wf_cut, wf_empty, wf_pair, wf_whole}

@@ -1,16 +1,9 @@
 -- What a table that holds a tree shows at a byte of the arena: nothing live, a large block, or a slot of a page. Assumes nothing.
-use mathlib.Core.Path.{◌∙◌, ◌≡◌, ap, refl, subst}
-use mathlib.Core.Logic.{◌≢◌, ◌⊎◌, inl, inr, ⊎_elim}
-use mathlib.Core.Bool.{◌&&◌, cond, false, true}
-use mathlib.Core.Option.{none, some}
-use mathlib.Core.List.{List}
-use Prim.Native.Nat.{◌%◌, ◌*◌, ◌+◌, ◌-◌, ◌/◌, ◌<◌, ◌^◌, ◌≤◌, suc, zero, ℕ}
-use borrow.Author.Tests.{le-leb, le-ltb, lt-leb, lt-ltb}
-use lib.Dec.{leb, ltb}
-use lib.ListN.{get_or}
-use lib.Pow.{high}
-use native.Mathlib.Nat.{add-mul, div-mul-le_self, lt-div-mul-add, mul-le-mul_right, suc-mul, zero-add, zero-mul}
-use native.Mathlib.Omega.{arith}
+use Rattle.std.proofs.Common.{List, ◌%◌, ◌&&◌, ◌*◌, ◌+◌, ◌-◌, ◌/◌, ◌<◌, ◌^◌, ◌∙◌, ◌≡◌, ◌≢◌, ◌≤◌, ◌⊎◌, add-mul, ap, arith, cond, div-mul-le_self, false, get_or, inl, inr, le-leb, le-ltb, leb, lt-ltb, ltb, mul-le-mul_right, refl, subst, suc, suc-mul, true, zero, zero-add, zero-mul, ℕ, ⊎_elim}
+use Rattle.std.proofs.Math.Nat.{lt-div-mul-add}
+use Rattle.std.proofs.Math.Option.{none, some}
+use Rattle.std.proofs.Math.Pow.{high}
+use Rattle.std.proofs.lemmas.Bool.{lt-leb}
 use Rattle.cells.specs.Cell.{tag_in, whole_tag}
 use Rattle.digits.specs.Digits.{bit_at}
 use Rattle.laws.proofs.Logic.{and_false, le_or_lt}

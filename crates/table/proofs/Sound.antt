@@ -1,13 +1,5 @@
 -- Check-up: all local tests pass on the tables that stand for a set of live blocks, and on no other. Assumes nothing.
-use mathlib.Core.Path.{◌∙◌, ◌≡◌, ap, refl, subst, sym}
-use mathlib.Core.Logic.{◌↔◌, ⊎_elim}
-use mathlib.Core.Bool.{cond, false, true}
-use mathlib.Core.List.{List}
-use Prim.Native.Nat.{◌*◌, ◌+◌, ◌-◌, ◌<◌, ◌^◌, ◌≤◌, suc, zero, ℕ}
-use lib.Dec.{eqb}
-use lib.ListN.{get_or, length}
-use native.Mathlib.Numerals.{add-one}
-use native.Mathlib.Omega.{arith}
+use Rattle.std.proofs.Common.{List, ◌*◌, ◌+◌, ◌-◌, ◌<◌, ◌^◌, ◌↔◌, ◌∙◌, ◌≡◌, ◌≤◌, add-one, ap, arith, cond, eqb, false, get_or, length, refl, subst, suc, sym, true, zero, ℕ, ⊎_elim}
 use Rattle.cells.specs.Cell.{packed, room_in}
 use Rattle.digits.specs.Digits.{ones}
 use Rattle.laws.proofs.Logic.{contra, le_or_lt}

@@ -1,13 +1,6 @@
 -- The table of no live block, and how start's loops make it. Assumes nothing.
-use mathlib.Core.Path.{◌∙◌, ◌≡◌, ap, refl, sym}
-use mathlib.Core.Logic.{⊎_elim}
-use mathlib.Core.List.{List, []}
-use Prim.Native.Nat.{◌*◌, ◌+◌, ◌-◌, ◌/◌, ◌<◌, ◌^◌, ◌≤◌, suc, zero, ℕ}
-use lib.ListN.{get_or, length, length-set, set}
-use lib.Pow.{pow_mono, pow_pos}
-use lib.Seq.{get_or-set_other, get_or-set_same}
-use native.Mathlib.Nat.{pow-succ'}
-use native.Mathlib.Omega.{arith}
+use Rattle.std.proofs.Common.{List, [], ◌*◌, ◌+◌, ◌-◌, ◌/◌, ◌<◌, ◌^◌, ◌∙◌, ◌≡◌, ◌≤◌, ap, arith, get_or, get_or-set_other, get_or-set_same, length, length-set, pow_mono, pow_pos, refl, set, suc, sym, zero, ℕ, ⊎_elim}
+use Rattle.std.proofs.Math.Nat.{pow-succ'}
 use Rattle.laws.proofs.Logic.{le_or_lt}
 use Rattle.meaning.specs.Blocks.{m_most}
 use Rattle.trees.proofs.Changes.{no_blocks, vacant_empty, vacant_wf}

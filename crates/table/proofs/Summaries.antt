@@ -1,13 +1,7 @@
 -- What the summary of a tree says: how much room there is, whether all of it is free, and which sizes have a slot. Assumes nothing.
-use mathlib.Core.Path.{◌∙◌, ◌≡◌, ap, ap₂, refl, sym}
-use mathlib.Core.Logic.{◌≢◌, ◌⊎◌, inl, inr, ⊎_elim}
-use mathlib.Core.Bool.{Bool, ◌&&◌, ◌||◌, cond, false, not, true}
-use mathlib.Core.Option.{Option, none, some}
-use Prim.Native.Nat.{◌+◌, ◌<◌, ◌^◌, max, suc, zero, ℕ}
-use borrow.Author.Tests.{eq-eqb, eqb-false, eqb-true, le-ltb, lt-ltb, ne_eqb, not-false}
-use lib.Dec.{eqb, ltb}
-use lib.Pow.{pow_pos}
-use native.Mathlib.Omega.{arith}
+use Rattle.std.proofs.Common.{Bool, ◌&&◌, ◌+◌, ◌<◌, ◌^◌, ◌||◌, ◌∙◌, ◌≡◌, ◌≢◌, ◌⊎◌, ap, ap₂, arith, cond, eq-eqb, eqb, eqb-true, false, inl, inr, le-ltb, lt-ltb, ltb, max, ne_eqb, not, pow_pos, refl, suc, sym, true, zero, ℕ, ⊎_elim}
+use Rattle.std.proofs.Math.Option.{Option, none, some}
+use Rattle.std.proofs.lemmas.Bool.{eqb-false, not-false}
 use Rattle.cells.specs.Cell.{room_of_pair}
 use Rattle.digits.proofs.Digits.{bit_at-bit_or, bit_complement, bit_pow, bit_zero, bits_none}
 use Rattle.digits.specs.Digits.{bit_at}

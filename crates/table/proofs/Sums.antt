@@ -1,9 +1,5 @@
 -- The figures: the sums over the nodes of a table that stands for a set of live blocks are that set's. Assumes nothing.
-use mathlib.Core.Path.{◌∙◌, ◌≡◌, ap, ap₂, refl, sym}
-use mathlib.Core.List.{List}
-use Prim.Native.Nat.{◌*◌, ◌+◌, ◌-◌, ◌<◌, ◌^◌, suc, zero, ℕ}
-use lib.ListN.{get_or}
-use native.Mathlib.Omega.{arith}
+use Rattle.std.proofs.Common.{List, ◌*◌, ◌+◌, ◌-◌, ◌<◌, ◌^◌, ◌∙◌, ◌≡◌, ap, ap₂, arith, get_or, refl, suc, sym, zero, ℕ}
 use Rattle.cells.specs.Cell.{room_in, tag_in}
 use Rattle.meaning.specs.Answers.{held_bytes, live_bytes, room_up_to}
 use Rattle.meaning.specs.Blocks.{Live, page_bytes, slots, small}

@@ -1,15 +1,6 @@
 -- The climb, as a function of any table whatever: what it writes and what it leaves alone. Assumes nothing.
-use mathlib.Core.Path.{◌∙◌, ◌≡◌, ap, ap₂, refl, sym}
-use mathlib.Core.Logic.{⊎_elim}
-use mathlib.Core.List.{List}
-use Prim.Native.Nat.{◌%◌, ◌*◌, ◌+◌, ◌-◌, ◌/◌, ◌<◌, ◌^◌, ◌≤◌, suc, zero, ℕ}
-use lib.Bits.{or_comm}
-use lib.ListN.{get_or, length, length-set, set}
-use lib.Pow.{pow_pos}
-use lib.Seq.{get_or-set_other, get_or-set_same}
-use native.Mathlib.Nat.{pow-suc}
-use native.Mathlib.Numerals.{add-one}
-use native.Mathlib.Omega.{arith}
+use Rattle.std.proofs.Common.{List, ◌%◌, ◌*◌, ◌+◌, ◌-◌, ◌/◌, ◌<◌, ◌^◌, ◌∙◌, ◌≡◌, ◌≤◌, add-one, ap, ap₂, arith, get_or, get_or-set_other, get_or-set_same, length, length-set, pow_pos, pow-suc, refl, set, suc, sym, zero, ℕ, ⊎_elim}
+use Rattle.std.proofs.lemmas.Nat.{or_comm}
 use Rattle.cells.specs.Cell.{joined, mask_in}
 use Rattle.laws.proofs.Logic.{le_or_lt}
 use Rattle.table.proofs.Nodes.{over_suc}
