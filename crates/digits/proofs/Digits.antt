@@ -1,8 +1,8 @@
 -- The laws of digits: two numbers with the same digits are equal; one digit set or cleared; either of two numbers' digits; all digits turned
 -- over; how many are 1. Assumes nothing.
-use Rattle.std.proofs.Common.{◌%◌, ◌*◌, ◌+◌, ◌-◌, ◌/◌, ◌<◌, ◌^◌, ◌||◌, ◌∙◌, ◌≡◌, ◌≢◌, ◌≤◌, ◌⊎◌, ap, arith, bit_or, eq-eqb, eq-or-lt_of_le, eqb, eqb-true, false, inl, inr, max, ne_eqb, not, one-add, pow_pos, pow-suc, refl, shr-shr, sub-one, suc, sym, true, zero, ℕ, ⊎_elim}
+use Rattle.std.proofs.Common.{◌%◌, ◌*◌, ◌+◌, ◌-◌, ◌/◌, ◌<◌, ◌^◌, ◌||◌, ◌∙◌, ◌≡◌, ◌≢◌, ◌≤◌, ap, arith, bit_or, eq-eqb, eqb, eqb-true, false, max, ne_eqb, not, one-add, pow_pos, pow-suc, refl, shr-shr, sub-one, suc, sym, true, zero, ℕ, ⊎_elim}
 use Rattle.std.proofs.Math.Dec.{eqb-suc-suc, eqb-suc-zero, eqb-zero-suc}
-use Rattle.std.proofs.lemmas.Bool.{eqb-false}
+use Rattle.std.proofs.lemmas.Bool.{cases_order, eqb-false}
 use Rattle.std.specs.Int.Bits.{or_step}
 use Rattle.laws.proofs.Logic.{contra, le_or_lt, split}
 use Rattle.digits.specs.Digits.{First, bit_at, ones}
@@ -192,8 +192,4 @@ bits_none n x p h = bits_ext n x 0 p (omega arith) (λ i l. h i l ∙ sym (bit_z
 
 -- a number has one lowest digit
 pub first_one : (bits i j : ℕ) → First bits i → First bits j → i ≡ j
-first_one bits i j a b = go (le_or_lt i j)
-  where
-    go : (i ≤ j) ⊎ (j < i) → i ≡ j
-    go (inl l) = ⊎_elim (λ (e : i ≡ j). e) (λ (e : i < j). contra a.there (b.first i e)) (eq-or-lt_of_le l)
-    go (inr l) = contra b.there (a.first j l)
+first_one bits i j a b = ⊎_elim (λ e. e) (⊎_elim (λ (l : i < j). contra a.there (b.first i l)) (λ (l : j < i). contra b.there (a.first j l))) (cases_order i j)

@@ -1,5 +1,6 @@
 -- Searches of joined lists, and what is clear in them. Assumes nothing.
-use Rattle.std.proofs.Common.{Bool, [], ◌&&◌, ◌++◌, ◌||◌, ◌∷◌, ◌≡◌, cond, false, refl, true, ℕ}
+use Rattle.std.proofs.Common.{Bool, [], ◌&&◌, ◌++◌, ◌||◌, ◌∷◌, ◌≡◌, cond, false, refl, sym, true, ℕ}
+use Rattle.std.proofs.Math.Bool.{and_assoc, or_assoc}
 use Rattle.std.proofs.Math.Option.{some}
 use Rattle.meaning.specs.Answers.{clear, remove, starts_at}
 use Rattle.meaning.specs.Blocks.{Block, Live}
@@ -8,20 +9,12 @@ use Rattle.meaning.specs.Search.{any, every, find, or_else}
 pub every_append : (p : Block → Bool) (x y : Live) → every p (x ++ y) ≡ every p x && every p y
 unfolding every
 every_append p [] y = refl
-every_append p (b ∷ x) y = rw (every_append p x y) (go (p b) (every p x))
-  where
-    go : (s t : Bool) → s && (t && every p y) ≡ s && t && every p y
-    go true t = refl
-    go false t = refl
+every_append p (b ∷ x) y = rw (every_append p x y) (sym (and_assoc (p b) (every p x) (every p y)))
 
 pub any_append : (p : Block → Bool) (x y : Live) → any p (x ++ y) ≡ any p x || any p y
 unfolding any
 any_append p [] y = refl
-any_append p (b ∷ x) y = rw (any_append p x y) (go (p b) (any p x))
-  where
-    go : (s t : Bool) → s || (t || any p y) ≡ s || t || any p y
-    go true t = refl
-    go false t = refl
+any_append p (b ∷ x) y = rw (any_append p x y) (sym (or_assoc (p b) (any p x) (any p y)))
 
 pub clear_append : (x y : Live) (b : Block) → clear (x ++ y) b ≡ clear x b && clear y b
 unfolding clear

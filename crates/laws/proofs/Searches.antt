@@ -1,8 +1,9 @@
 -- What a search finds: the first number that passes, and none only where none does. Assumes nothing.
 use Rattle.std.proofs.Common.{Bool, ◌+◌, ◌<◌, ◌≡◌, ◌≤◌, ◌⊎◌, add-suc, add-zero, arith, cond, eq-or-lt_of_le, false, inl, inr, refl, suc, suc-add, sym, true, zero, zero-add, ℕ, ⊎_elim}
 use Rattle.std.proofs.Math.Option.{Option, none, some}
+use Rattle.std.proofs.lemmas.Bool.{cases_order}
 use Rattle.meaning.specs.Search.{lowest, or_else}
-use Rattle.laws.proofs.Logic.{contra, le_or_lt, no_some, split}
+use Rattle.laws.proofs.Logic.{contra, no_some, split}
 
 pub record Found (p : ℕ → Bool) (lo n k : ℕ) : Type 0 where
   pub from : lo ≤ k
@@ -47,9 +48,9 @@ lowest_is p lo n k f = go (lowest p lo n) refl
     go (some j) e =
         let g = lowest_found p lo n j e in
         ⊎_elim
-        (λ (l : j ≤ k). ⊎_elim (λ (q : j ≡ k). rw (← q) e) (λ (q : j < k). contra g.passes (f.first j g.from q)) (eq-or-lt_of_le l))
-        (λ (l : k < j). contra f.passes (g.first k f.from l))
-        (le_or_lt j k)
+        (λ (q : j ≡ k). rw (← q) e)
+        (⊎_elim (λ (l : j < k). contra g.passes (f.first j g.from l)) (λ (l : k < j). contra f.passes (g.first k f.from l)))
+        (cases_order j k)
 
 pub lowest_isnt : (p : ℕ → Bool) (lo n : ℕ) → ((j : ℕ) → lo ≤ j → j < lo + n → p j ≡ false) → lowest p lo n ≡ none
 unfolding lowest

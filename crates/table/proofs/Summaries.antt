@@ -1,11 +1,12 @@
 -- What the summary of a tree says: how much room there is, whether all of it is free, and which sizes have a slot. Assumes nothing.
 use Rattle.std.proofs.Common.{Bool, ◌&&◌, ◌+◌, ◌<◌, ◌^◌, ◌||◌, ◌∙◌, ◌≡◌, ◌≢◌, ◌⊎◌, ap, ap₂, arith, cond, eq-eqb, eqb, eqb-true, false, inl, inr, le-ltb, lt-ltb, ltb, max, ne_eqb, not, pow_pos, refl, suc, sym, true, zero, ℕ, ⊎_elim}
+use Rattle.std.proofs.Math.Bool.{and-true}
 use Rattle.std.proofs.Math.Option.{Option, none, some}
 use Rattle.std.proofs.lemmas.Bool.{eqb-false, not-false}
 use Rattle.cells.specs.Cell.{room_of_pair}
 use Rattle.digits.proofs.Digits.{bit_at-bit_or, bit_complement, bit_pow, bit_zero, bits_none}
 use Rattle.digits.specs.Digits.{bit_at}
-use Rattle.laws.proofs.Logic.{and_false, and_left, and_right, and_true, contra, has_or, split}
+use Rattle.laws.proofs.Logic.{and_false, and_left, and_right, contra, has_or, split}
 use Rattle.laws.proofs.Searches.{lowest_none}
 use Rattle.meaning.specs.Blocks.{slots}
 use Rattle.meaning.specs.Search.{has, least, or_else}
@@ -93,7 +94,7 @@ leaf_mask c d taken b = rw (open_slot d taken b) (go (eqb (open_bits d taken) 0)
   where
     go : (x : Bool) → bit_at c (cond x 0 (2 ^ d)) ≡ eqb d c && not x
     go true = bit_zero c ∙ sym (and_false (eqb d c))
-    go false = bit_pow c d ∙ (eqb_swap c d ∙ sym (and_true (eqb d c)))
+    go false = bit_pow c d ∙ (eqb_swap c d ∙ sym (and-true (eqb d c)))
 
 found_here : (x : Bool) (q : ℕ) → x ≡ has (cond x (some q) none)
 unfolding has

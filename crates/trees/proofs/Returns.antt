@@ -2,6 +2,7 @@
 use Rattle.std.proofs.Common.{Bool, [], ◌%◌, ◌*◌, ◌+◌, ◌-◌, ◌/◌, ◌<◌, ◌^◌, ◌∙◌, ◌∷◌, ◌≡◌, ◌≢◌, ◌≤◌, ◌⊎◌, ap, arith, cond, eq-eqb, eqb, false, inl, inr, mul-div_cancel, mul-one, ne_eqb, pow_pos, refl, subst, suc, sym, true, zero, zero-add, zero-mul, ℕ, ⊎_elim}
 use Rattle.std.proofs.Math.Option.{none, some}
 use Rattle.std.proofs.Math.Pow.{pow-lt}
+use Rattle.std.proofs.lemmas.Bool.{cases_order}
 use Rattle.digits.proofs.Digits.{bit_le, less_same}
 use Rattle.digits.specs.Digits.{bit_at}
 use Rattle.laws.proofs.Logic.{le_or_lt, no_some, split}
@@ -63,7 +64,7 @@ spot_change {T = T} s N = subst (λ x. Change s.j s.at.old N s.d x T (s.at.new N
 
 -- the power says the exponent
 pow_same : (i j : ℕ) → 2 ^ i ≡ 2 ^ j → i ≡ j
-pow_same i j e = ⊎_elim (λ (g : i ≤ j). ⊎_elim (λ (f : j ≤ i). omega arith) (λ (f : i < j). absurd (omega (arith, pow-lt f))) (le_or_lt j i)) (λ (g : j < i). absurd (omega (arith, pow-lt g))) (le_or_lt i j)
+pow_same i j e = ⊎_elim (λ q. q) (⊎_elim (λ (l : i < j). absurd (omega (arith, pow-lt l))) (λ (l : j < i). absurd (omega (arith, pow-lt l)))) (cases_order i j)
 
 -- a product says its other factor
 product_same : (n i j : ℕ) → 0 < n → i * n ≡ j * n → i ≡ j

@@ -1,7 +1,8 @@
 -- The leftmost free run of a tree is the lowest one of its blocks. Assumes nothing.
-use Rattle.std.proofs.Common.{[], ◌*◌, ◌++◌, ◌+◌, ◌-◌, ◌<◌, ◌^◌, ◌∙◌, ◌≡◌, ◌≤◌, add_comm, add-mul, ap, ap₂, arith, inl, inr, mul-le-mul_right, pow-add, pow_pos, pow-suc, refl, subst, suc, suc-mul, zero, zero-mul, ℕ}
+use Rattle.std.proofs.Common.{[], ◌*◌, ◌++◌, ◌+◌, ◌-◌, ◌<◌, ◌^◌, ◌∙◌, ◌≡◌, ◌≤◌, add_comm, add-mul, ap, ap₂, arith, inl, inr, mul-le-mul_right, pow-add, pow_pos, refl, subst, suc, suc-mul, zero, zero-mul, ℕ}
+use Rattle.std.proofs.Math.Bool.{and-true}
+use Rattle.std.proofs.Math.Nat.{two-pow-succ}
 use Rattle.laws.proofs.Lists.{clear_append}
-use Rattle.laws.proofs.Logic.{and_true}
 use Rattle.laws.proofs.Searches.{lowest_cong, lowest_isnt, lowest_parts}
 use Rattle.meaning.specs.Answers.{clear}
 use Rattle.meaning.specs.Blocks.{Block, Live, ends, large, pages}
@@ -16,12 +17,9 @@ range s i j n a b = (mul-le-mul_right s a, omega (arith, mul-le-mul_right s b, s
 pub span : {h : ℕ} (k d : ℕ) → h ≡ k + d → 2 ^ h ≡ 2 ^ d * 2 ^ k
 span k d e = ap (λ x. 2 ^ x) (e ∙ add_comm k d) ∙ pow-add 2 d k
 
-two : (d : ℕ) → 2 ^ suc d ≡ 2 ^ d + 2 ^ d
-two d = omega (arith, pow-suc 2 d)
-
 -- of two trees side by side, each alone decides what is free in its part
 pub clear_left : {mid hi : ℕ} (x : Live) {y : Live} → Within mid hi y → (b : Block) → ends b ≤ mid → clear (x ++ y) b ≡ clear x b
-clear_left x {y} w b e = rw (clear_append x y b, clear_outside w b (inr e)) (and_true (clear x b))
+clear_left x {y} w b e = rw (clear_append x y b, clear_outside w b (inr e)) (and-true (clear x b))
 
 pub clear_right : {lo mid : ℕ} {x : Live} (y : Live) → Within lo mid x → (b : Block) → mid ≤ b.start → clear (x ++ y) b ≡ clear y b
 clear_right {x = x} y w b e = rw (clear_append x y b, clear_outside w b (inl e)) refl
@@ -51,7 +49,7 @@ runs (wf_pair {h = h} {l = l} {r = r} u v) k (suc d) i e =
     (λ j a b. rw base (clear_right (blocks h (q + 2 ^ h) r) (blocks_within u q) (large k j) (omega (arith, range (2 ^ k) (i + 2 ^ d) j (2 ^ d) a b))))
     ∙ runs v k d (i + 2 ^ d) e'
     in
-    rw (two d) (lowest_parts _ i (2 ^ d) (2 ^ d) ∙ ap₂ or_else left right)
+    rw (two-pow-succ d) (lowest_parts _ i (2 ^ d) (2 ^ d) ∙ ap₂ or_else left right)
 
 -- for the whole arena
 pub largest_first : {m : ℕ} {T : Tree} → WF m T → (k d : ℕ) → m ≡ k + d → least (λ j. clear (blocks m 0 T) (large k j)) (2 ^ (m - k)) ≡ first_run d 0 T
