@@ -1,8 +1,7 @@
 -- Searches of joined lists, and what is clear in them. Assumes nothing.
-use Rattle.std.proofs.Common.{Bool, [], ◌&&◌, ◌++◌, ◌||◌, ◌∷◌, ◌≡◌, cond, false, refl, sym, true, ℕ}
+use Rattle.std.proofs.Common.{Bool, [], ◌&&◌, ◌++◌, ◌||◌, ◌∷◌, ◌≡◌, arith, refl, sym, ℕ}
 use Rattle.std.proofs.Math.Bool.{and_assoc, or_assoc}
-use Rattle.std.proofs.Math.Option.{some}
-use Rattle.meaning.specs.Answers.{clear, remove, starts_at}
+use Rattle.meaning.specs.Answers.{clear, remove}
 use Rattle.meaning.specs.Blocks.{Block, Live}
 use Rattle.meaning.specs.Search.{any, every, find, or_else}
 
@@ -23,17 +22,9 @@ clear_append x y b = every_append _ x y
 pub remove_append : (o : ℕ) (x y : Live) → remove o (x ++ y) ≡ remove o x ++ remove o y
 unfolding remove
 remove_append o [] y = refl
-remove_append o (b ∷ x) y = rw (remove_append o x y) (go (starts_at o b))
-  where
-    go : (t : Bool) → cond t (remove o x ++ remove o y) (b ∷ (remove o x ++ remove o y)) ≡ cond t (remove o x) (b ∷ remove o x) ++ remove o y
-    go true = refl
-    go false = refl
+remove_append o (b ∷ x) y = grind (arith, remove_append o x y)
 
 pub find_append : (p : Block → Bool) (x y : Live) → find p (x ++ y) ≡ or_else (find p x) (find p y)
 unfolding find or_else
 find_append p [] y = refl
-find_append p (b ∷ x) y = rw (find_append p x y) (go (p b))
-  where
-    go : (t : Bool) → cond t (some b) (or_else (find p x) (find p y)) ≡ or_else (cond t (some b) (find p x)) (find p y)
-    go true = refl
-    go false = refl
+find_append p (b ∷ x) y = grind (arith, find_append p x y)
