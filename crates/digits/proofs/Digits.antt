@@ -1,10 +1,10 @@
 -- The laws of digits: two numbers with the same digits are equal; one digit set or cleared; either of two numbers' digits; all digits turned
 -- over; how many are 1. Assumes nothing.
 use Rattle.std.proofs.Common.{◌%◌, ◌*◌, ◌+◌, ◌-◌, ◌/◌, ◌<◌, ◌^◌, ◌||◌, ◌∙◌, ◌≡◌, ◌≢◌, ◌≤◌, ap, arith, bit_or, eq-eqb, eqb, eqb-true, false, max, ne_eqb, not, one-add, pow_pos, pow-suc, refl, shr-shr, sub-one, suc, sym, true, zero, ℕ, ⊎_elim}
-use Rattle.std.proofs.Math.Dec.{eqb-suc-suc, eqb-suc-zero, eqb-zero-suc}
+use Rattle.std.proofs.Math.Dec.{eqb-suc-zero, eqb-zero-suc}
 use Rattle.std.proofs.lemmas.Bool.{cases_order, eqb-false}
 use Rattle.std.specs.Int.Bits.{or_step}
-use Rattle.laws.proofs.Logic.{contra, le_or_lt, split}
+use Rattle.laws.proofs.Logic.{contra, split}
 use Rattle.digits.specs.Digits.{First, bit_at, ones}
 
 -- 0 has no digit 1
@@ -87,9 +87,7 @@ some_digit (suc n) x p l =
 
 -- below a digit 1 there are fewer than all digits
 pub zeros_lt : (n k x : ℕ) → 0 < x → x < 2 ^ n → ((j : ℕ) → j < k → bit_at j x ≡ false) → k < n
-zeros_lt n k x p l h =
-    let d = some_digit n x p l in
-    ⊎_elim (λ e. omega (arith, d.1)) (λ e. contra d.2 (h d.0 e)) (le_or_lt k d.0)
+zeros_lt n k x p l h = grind (arith, some_digit n x p l)
 
 -- ---- a digit cleared
 
@@ -107,9 +105,7 @@ less_same (suc i) n p = ap (bit_at i) (half_less i n) ∙ less_same i (n / 2) p
 pub less_other : (i j n : ℕ) → bit_at i n ≡ true → j ≢ i → bit_at j (n - 2 ^ i) ≡ bit_at j n
 unfolding bit_at
 less_other zero zero n p q = absurd (q refl)
-less_other zero (suc j) n p q =
-    let e : (n - 1) / 2 ≡ n / 2 = omega (arith, lowest_true n p) in
-    ap (bit_at j) e
+less_other zero (suc j) n p q = grind arith
 less_other (suc i) zero n p q = lowest_same (n - 2 ^ suc i) n (omega (arith, pow-suc 2 i, bit_le (suc i) n p))
 less_other (suc i) (suc j) n p q = ap (bit_at j) (half_less i n) ∙ less_other i j (n / 2) p (λ x. q (ap suc x))
 
@@ -129,9 +125,7 @@ more_same (suc i) n p = ap (bit_at i) (half_more i n) ∙ more_same i (n / 2) p
 pub more_other : (i j n : ℕ) → bit_at i n ≡ false → j ≢ i → bit_at j (n + 2 ^ i) ≡ bit_at j n
 unfolding bit_at
 more_other zero zero n p q = absurd (q refl)
-more_other zero (suc j) n p q =
-    let e : (n + 1) / 2 ≡ n / 2 = omega (arith, lowest_false n p) in
-    ap (bit_at j) e
+more_other zero (suc j) n p q = grind arith
 more_other (suc i) zero n p q = lowest_same (n + 2 ^ suc i) n (omega (arith, pow-suc 2 i))
 more_other (suc i) (suc j) n p q = ap (bit_at j) (half_more i n) ∙ more_other i j (n / 2) p (λ x. q (ap suc x))
 
@@ -163,9 +157,7 @@ unfolding bit_at
 bit_pow zero zero = refl
 bit_pow zero (suc x) = ne_eqb (2 ^ suc x % 2) 1 (λ e. omega (arith, pow-suc 2 x)) ∙ sym (eqb-zero-suc x)
 bit_pow (suc c) zero = bit_zero c ∙ sym (eqb-suc-zero c)
-bit_pow (suc c) (suc x) =
-    let e : 2 ^ suc x / 2 ≡ 2 ^ x = omega (arith, pow-suc 2 x) in
-    ap (bit_at c) e ∙ bit_pow c x ∙ sym (eqb-suc-suc c x)
+bit_pow (suc c) (suc x) = grind (arith, bit_pow c x)
 
 -- ---- the n lowest digits turned over
 
@@ -177,13 +169,7 @@ half_complement n x l = omega (arith, pow-suc 2 n, pow_pos n)
 pub bit_complement : (n i x : ℕ) → i < n → x < 2 ^ n → bit_at i (ones n - x) ≡ not (bit_at i x)
 unfolding bit_at
 bit_complement zero i x h l = absurd (omega arith)
-bit_complement (suc n) zero x h l =
-    ⊎_elim
-    (λ (t : bit_at 0 x ≡ true).
-    ne_eqb ((ones (suc n) - x) % 2) 1 (λ e. omega (arith, lowest_true x t, pow-suc 2 n, pow_pos n)) ∙ sym (ap not t))
-    (λ (t : bit_at 0 x ≡ false).
-    eq-eqb ((ones (suc n) - x) % 2) 1 (omega (arith, lowest_false x t, pow-suc 2 n, pow_pos n)) ∙ sym (ap not t))
-    (split (bit_at 0 x))
+bit_complement (suc n) zero x h l = grind arith
 bit_complement (suc n) (suc i) x h l = ap (bit_at i) (half_complement n x l) ∙ bit_complement n i (x / 2) (omega arith) (omega (arith, pow-suc 2 n))
 
 -- a number with no digit 1 is 0
