@@ -1,5 +1,5 @@
 -- Every byte of the arena is in a live block, in a slot that is not live, left over, or in a free page, and in one of them only. Assumes nothing.
-use Rattle.std.proofs.Common.{Bool, [], ◌%◌, ◌*◌, ◌+◌, ◌/◌, ◌<◌, ◌^◌, ◌||◌, ◌∙◌, ◌∷◌, ◌≡◌, ◌≢◌, ◌≤◌, ap, arith, cond, div-add-mod', div-lt_iff_lt-mul, false, le-leb, le-ltb, leb, lt-ltb, mod-lt, ne_eqb, not, pow_pos, refl, subst, true, zero-add, zero-mul, ℕ, ⊎_elim}
+use Rattle.std.proofs.Common.{Bool, [], ◌%◌, ◌*◌, ◌+◌, ◌/◌, ◌<◌, ◌^◌, ◌∙◌, ◌∷◌, ◌≡◌, ◌≢◌, ◌≤◌, ap, arith, cond, div-add-mod', div-lt_iff_lt-mul, false, le-leb, le-ltb, leb, lt-ltb, mod-lt, ne_eqb, not, pow_pos, refl, subst, true, zero-add, zero-mul, ℕ, ⊎_elim}
 use Rattle.std.proofs.Math.Option.{none, some}
 use Rattle.std.proofs.lemmas.Bool.{lt-leb}
 use Rattle.digits.specs.Digits.{bit_at}
@@ -24,11 +24,7 @@ use Rattle.trees.specs.Tree.{Tree, WF, blocks, empty, is_empty, slot_blocks, wf_
 pub any_find : (p : Block → Bool) (L : Live) → any p L ≡ has (find p L)
 unfolding any has find
 any_find p [] = refl
-any_find p (b ∷ L) = go (p b) (any_find p L)
-  where
-    go : (t : Bool) → any p L ≡ has (find p L) → t || any p L ≡ has (cond t (some b) (find p L))
-    go true e = refl
-    go false e = e
+any_find p (b ∷ L) = grind (arith, any_find p L)
 
 -- ---- the size that a page serves
 

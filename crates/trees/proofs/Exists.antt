@@ -1,5 +1,5 @@
 -- Every allowed set of live blocks is that of a tree, and the blocks of a tree are allowed. Assumes nothing.
-use Rattle.std.proofs.Common.{Bool, [], ◌%◌, ◌&&◌, ◌*◌, ◌++◌, ◌+◌, ◌-◌, ◌/◌, ◌<◌, ◌^◌, ◌||◌, ◌∙◌, ◌∷◌, ◌≡◌, ◌≤◌, add-mul, ap, arith, cond, eqb, false, le-leb, leb, mul_assoc, mul-one, pow_pos, pow-suc, refl, subst, suc, sym, true, zero, zero-add, zero-mul, ℕ, ⊎_elim}
+use Rattle.std.proofs.Common.{Bool, [], ◌%◌, ◌*◌, ◌++◌, ◌+◌, ◌-◌, ◌/◌, ◌<◌, ◌^◌, ◌∙◌, ◌∷◌, ◌≡◌, ◌≤◌, add-mul, ap, arith, cond, eqb, false, le-leb, mul_assoc, mul-one, pow_pos, pow-suc, refl, subst, suc, sym, true, zero, zero-add, zero-mul, ℕ, ⊎_elim}
 use Rattle.std.proofs.Math.Nat.{pow-succ'}
 use Rattle.std.proofs.lemmas.Bool.{not-true}
 use Rattle.digits.proofs.Digits.{bit_zero, set_lt}
@@ -115,11 +115,7 @@ serves_at {i = i} k s q (right {d = d} l {r = r} c) (wf_pair {h = h} u v) e lo h
 clear_before : {b : Block} {L : Live} → BeforeAll b L → clear L b ≡ true
 unfolding clear every
 clear_before before_none = refl
-clear_before {b} (before_some {b' = y} h r) = rw (le-leb (ends b) y.start h.apart) (go (leb (ends y) b.start) (clear_before r))
-  where
-    go : (t : Bool) {u : Bool} → u ≡ true → (t || true) && u ≡ true
-    go true e = e
-    go false e = e
+clear_before {b} (before_some {b' = y} h r) = grind (arith, clear_before r)
 
 insert_before : {b : Block} {L : Live} → b.start < ends b → BeforeAll b L → insert b L ≡ b ∷ L
 unfolding insert

@@ -1,5 +1,5 @@
 -- The leftmost free run of a tree is the lowest one of its blocks. Assumes nothing.
-use Rattle.std.proofs.Common.{[], ◌*◌, ◌++◌, ◌+◌, ◌-◌, ◌<◌, ◌^◌, ◌∙◌, ◌≡◌, ◌≤◌, add_comm, add-mul, ap, ap₂, arith, inl, inr, mul-le-mul_right, pow-add, pow_pos, refl, subst, suc, suc-mul, zero, zero-mul, ℕ}
+use Rattle.std.proofs.Common.{[], ◌*◌, ◌++◌, ◌+◌, ◌-◌, ◌<◌, ◌^◌, ◌∙◌, ◌≡◌, ◌≤◌, add_comm, add-mul, ap, ap₂, arith, inl, inr, mul-le-mul_right, pow-add, pow_pos, refl, suc, suc-mul, zero, ℕ}
 use Rattle.std.proofs.Math.Bool.{and-true}
 use Rattle.std.proofs.Math.Nat.{two-pow-succ}
 use Rattle.laws.proofs.Lists.{clear_append}
@@ -54,7 +54,4 @@ runs (wf_pair {h = h} {l = l} {r = r} u v) k (suc d) i e =
 -- for the whole arena
 pub largest_first : {m : ℕ} {T : Tree} → WF m T → (k d : ℕ) → m ≡ k + d → least (λ j. clear (blocks m 0 T) (large k j)) (2 ^ (m - k)) ≡ first_run d 0 T
 unfolding least
-largest_first {m} {T} w k d e =
-    let z : m - k ≡ d = omega arith in
-    let zero_base : 0 * 2 ^ k ≡ 0 = zero-mul (2 ^ k) in
-    rw z (subst (λ (q : ℕ). lowest (λ j. clear (blocks m q T) (large k j)) 0 (2 ^ d) ≡ first_run d 0 T) zero_base (runs w k d 0 e))
+largest_first {m} {T} w k d e = grind (arith, runs w k d 0 e)

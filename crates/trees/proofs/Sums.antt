@@ -1,8 +1,8 @@
 -- The figures of a tree are those of its blocks. Assumes nothing.
-use Rattle.std.proofs.Common.{Bool, [], ◌&&◌, ◌*◌, ◌++◌, ◌+◌, ◌-◌, ◌<◌, ◌^◌, ◌||◌, ◌∙◌, ◌∷◌, ◌≡◌, ◌≤◌, ◌⊎◌, add_assoc, ap, ap₂, arith, cond, false, inl, inr, le-ltb, lt-ltb, ltb, ltb-false, ltb-true, max, not, pow-suc, refl, suc, sym, true, zero, zero-add, ℕ, ⊎_elim}
+use Rattle.std.proofs.Common.{Bool, [], ◌&&◌, ◌*◌, ◌++◌, ◌+◌, ◌-◌, ◌<◌, ◌^◌, ◌||◌, ◌∙◌, ◌∷◌, ◌≡◌, ◌≤◌, ◌⊎◌, add_assoc, ap, ap₂, arith, cond, false, inl, inr, le-ltb, lt-ltb, ltb, max, not, pow-suc, refl, suc, sym, true, zero, zero-add, ℕ, ⊎_elim}
 use Rattle.std.proofs.Math.Option.{none, some}
 use Rattle.laws.proofs.Counting.{count_all, count_cong, count_parts}
-use Rattle.laws.proofs.Logic.{and_left, contra, has_bind, has_or, le_or_lt, split}
+use Rattle.laws.proofs.Logic.{and_left, contra, has_bind, has_or, split}
 use Rattle.meaning.specs.Answers.{clear, free, held_bytes, large_place, live_bytes, room_up_to}
 use Rattle.meaning.specs.Blocks.{Live, large, page_bytes, pages, size_count, slots}
 use Rattle.meaning.specs.Search.{count, every, has, least}
@@ -73,12 +73,7 @@ best_full (wf_pair {h = h} {l = l} {r = r} u v) e = rw e (omega (arith, top u (s
     top w (inr t) f = omega (arith, f t)
 
 or_ltb : (k a b : ℕ) → ltb k a || ltb k b ≡ ltb k (max a b)
-or_ltb k a b = go (split (ltb k a)) (split (ltb k b))
-  where
-    go : (ltb k a ≡ true) ⊎ (ltb k a ≡ false) → (ltb k b ≡ true) ⊎ (ltb k b ≡ false) → ltb k a || ltb k b ≡ ltb k (max a b)
-    go (inl t) u = rw t (sym (lt-ltb k (max a b) (omega (arith, ltb-true k a t))))
-    go (inr t) (inl u) = rw (t, u) (sym (lt-ltb k (max a b) (omega (arith, ltb-true k b u))))
-    go (inr t) (inr u) = rw (t, u) (sym (le-ltb k (max a b) (omega (arith, ltb-false k a t, ltb-false k b u))))
+or_ltb k a b = grind arith
 
 pub best_run : {h : ℕ} {T : Tree} → WF h T → (k d i : ℕ) → h ≡ k + d → has (first_run d i T) ≡ ltb k (best h T)
 unfolding first_run best
@@ -106,10 +101,7 @@ room_zero (suc (suc b)) h = absurd (omega arith)
 
 room_suc : (b k less : ℕ) → b ≤ suc (suc k) → (b ≤ suc k → less ≡ room_bytes b) → cond (ltb (suc k) b) (page_bytes * 2 ^ suc k) less ≡ room_bytes b
 unfolding room_bytes
-room_suc b k less h f = ⊎_elim
-    (λ (l : b ≤ suc k). rw (le-ltb (suc k) b l) (f l))
-    (λ (l : suc k < b). let e : b ≡ suc (suc k) = omega arith in rw (e, lt-ltb (suc k) (suc (suc k)) (omega arith)) refl)
-    (le_or_lt b (suc k))
+room_suc b k less h f = grind arith
 
 has_place : {m : ℕ} {T : Tree} → WF m T → (k : ℕ) → k ≤ m → has (large_place m (blocks m 0 T) k) ≡ ltb k (best m T)
 unfolding large_place
