@@ -48,9 +48,7 @@ descended_to f (suc n) t v = omega (arith, two_levels n (v + 1), mul-le-mul_left
 
 -- before the first turn of a loop over n levels
 pub descended_begin : (f : ℕ → Bool) (n v : ℕ) (t : List ℕ) → descended f (n - 0) t v ≡ descended f n t v
-descended_begin f n v t =
-    let q : n - 0 ≡ n = omega arith in
-    rw q refl
+descended_begin f n v t = grind arith
 
 -- one turn of a loop that has gone d of n levels, by what the test says
 descended_turn : (f : ℕ → Bool) (n d v : ℕ) (t : List ℕ) (x : Bool) → d < n → f (get_or t (2 * v) 0) ≡ x → descended f (n - (d + 1)) t (turned x v) ≡ descended f (n - d) t v
@@ -67,9 +65,7 @@ descended_right f n d v t l p = descended_turn f n d v t false l p
 
 -- after the last turn
 pub descended_end : (f : ℕ → Bool) (n d v w : ℕ) (t : List ℕ) → n ≤ d → descended f (n - d) t v ≡ w → v ≡ w
-descended_end f n d v w t l p =
-    let q : n - d ≡ 0 = omega arith in
-    rw q at p
+descended_end f n d v w t l p = grind arith
 
 -- the next power, and where it stands below the last
 pub twice : (d : ℕ) → 2 ^ (d + 1) ≡ 2 * 2 ^ d

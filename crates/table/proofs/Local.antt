@@ -1,7 +1,6 @@
 -- Check-up's local tests: what it is to pass them. Assumes nothing.
-use Rattle.std.proofs.Common.{Bool, ◌&&◌, ◌+◌, ◌-◌, ◌<◌, ◌^◌, ◌||◌, ◌∙◌, ◌≡◌, ◌≤◌, ap, arith, cond, eq-eqb, eqb, eqb-true, le-leb, leb, leb-true, lt-ltb, ltb, ltb-true, refl, suc, sym, true, ℕ, ⊎_elim}
-use Rattle.std.proofs.lemmas.Bool.{and_from, or_cases, or_right}
-use Rattle.cells.proofs.Cell.{tag_packed}
+use Rattle.std.proofs.Common.{◌&&◌, ◌+◌, ◌-◌, ◌<◌, ◌^◌, ◌||◌, ◌∙◌, ◌≡◌, ◌≤◌, ap, arith, cond, eq-eqb, eqb, eqb-true, leb, leb-true, ltb, ltb-true, refl, sym, true, ℕ, ⊎_elim}
+use Rattle.std.proofs.lemmas.Bool.{or_cases}
 use Rattle.cells.specs.Cell.{joined, packed, tag_in}
 use Rattle.digits.specs.Digits.{ones}
 use Rattle.laws.proofs.Logic.{and_left, and_right}
@@ -38,34 +37,22 @@ leaf_passes cell bits e = ⊎_elim
 -- and each such page passes
 cut_sound_lem : (cell bits c : ℕ) → c < size_count → bits < ones (slots c) → cell ≡ packed 0 (c + 1) (cond (eqb bits 0) 0 (2 ^ c)) → cut_sound cell bits ≡ true
 unfolding cut_sound
-cut_sound_lem cell bits c l b e =
-    let g : tag_in cell ≡ c + 1 = ap tag_in e ∙ tag_packed 0 (c + 1) (cond (eqb bits 0) 0 (2 ^ c)) (omega arith) (omega arith) in
-    let q : c + 1 - 1 ≡ c = omega arith in
-    rw (g, q) (and_from _ _ (and_from _ _ (and_from _ _ (lt-ltb 0 (c + 1) (omega arith)) (le-leb (c + 1) size_count (omega arith))) (lt-ltb bits (ones (slots c)) b)) (eq-eqb cell _ e))
+cut_sound_lem cell bits c l b e = grind arith
 
 -- and each such leaf passes
 pub leaf_sound_lem : (cell bits : ℕ) → LeafCell cell bits → leaf_sound cell bits ≡ true
 unfolding leaf_sound
 leaf_sound_lem cell bits (free_leaf e z) = rw (eq-eqb cell _ e, eq-eqb bits 0 z) refl
 leaf_sound_lem cell bits (whole_leaf e z) = rw (e, z) refl
-leaf_sound_lem cell bits (cut_leaf c l b e) = or_right (eqb cell (cell_of 0 empty) && eqb bits 0 || eqb cell (cell_of 0 whole) && eqb bits 0) _ (cut_sound_lem cell bits c l b e)
+leaf_sound_lem cell bits (cut_leaf c l b e) = grind (arith, cut_sound_lem cell bits c l b e)
 
 -- a node that passes is the join of its halves, or a large live block above free halves
 pub node_passes : (h cell a b : ℕ) → node_sound h cell a b ≡ true → NodeCell h cell a b
 unfolding node_sound
-node_passes h cell a b e =
-    let x : Bool = eqb cell (cell_of (suc h) whole) in
-    let y : Bool = eqb a (h + 1) in
-    let z : Bool = eqb b (h + 1) in
-    ⊎_elim
-    (λ (p : eqb cell (joined h a b) ≡ true). pair_node (eqb-true cell _ p))
-    (λ (p : x && y && z ≡ true).
-    let q = and_left (x && y) z p in
-    whole_node (eqb-true cell _ (and_left x y q)) (eqb-true a _ (and_right x y q)) (eqb-true b _ (and_right (x && y) z p)))
-    (or_cases (eqb cell (joined h a b)) (x && y && z) e)
+node_passes h cell a b e = grind arith
 
 -- and each such node passes
 pub node_sound_lem : (h cell a b : ℕ) → NodeCell h cell a b → node_sound h cell a b ≡ true
 unfolding node_sound
 node_sound_lem h cell a b (pair_node e) = rw (eq-eqb cell (joined h a b) e) refl
-node_sound_lem h cell a b (whole_node e x y) = or_right (eqb cell (joined h a b)) _ (and_from _ _ (and_from _ _ (eq-eqb cell (cell_of (suc h) whole) e) (eq-eqb a (h + 1) x)) (eq-eqb b (h + 1) y))
+node_sound_lem h cell a b (whole_node e x y) = grind arith

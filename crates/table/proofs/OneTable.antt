@@ -2,9 +2,8 @@
 -- only allowed sets have tables. Assumes nothing.
 use Rattle.std.proofs.Common.{List, ◌*◌, ◌+◌, ◌-◌, ◌<◌, ◌^◌, ◌↔◌, ◌∙◌, ◌≡◌, ◌≤◌, ap, ap₂, arith, ext_get_or, get_or, get_or-take, length, length-take, pow_mono, pow_pos, refl, suc, sym, take, zero, ℕ, ⊎_elim}
 use Rattle.std.proofs.Math.Nat.{pow-succ'}
-use Rattle.digits.specs.Digits.{ones}
 use Rattle.laws.proofs.Logic.{le_or_lt}
-use Rattle.meaning.specs.Blocks.{Allowed, Live, m_most, slots}
+use Rattle.meaning.specs.Blocks.{Allowed, Live, m_most}
 use Rattle.trees.proofs.Exists.{tree_of}
 use Rattle.trees.proofs.Unique.{tree_unique}
 use Rattle.trees.specs.Tree.{Tree, WF, blocks, cut, empty, pair, whole}
@@ -27,11 +26,7 @@ module _ (t : List ℕ) (pages : ℕ) where
   same_leaf v empty whole g e f = absurd (omega arith)
   same_leaf v empty (pair l r) g e f = absurd f.1
   same_leaf v (cut c b) empty g e f = absurd (omega arith)
-  same_leaf v (cut c b) (cut d a) g e f =
-      let q : c ≡ d = omega arith in
-      let z : ones (slots c) - b ≡ ones (slots c) - a = sym e.3 ∙ (rw (← q) at f.3) in
-      let y : a < 2 ^ slots c = rw (← q) at f.1.2 in
-      ap₂ cut q (omega (arith, e.1.2))
+  same_leaf v (cut c b) (cut d a) g e f = grind arith
   same_leaf v (cut c b) whole g e f = absurd (omega (arith, e.1.0))
   same_leaf v (cut c b) (pair l r) g e f = absurd f.1
   same_leaf v whole empty g e f = absurd (omega arith)

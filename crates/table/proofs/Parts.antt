@@ -1,5 +1,5 @@
 -- The table of a tree as a function of it: each needed cell of a table that holds a tree, and a table that holds it. Assumes nothing.
-use Rattle.std.proofs.Common.{List, ◌%◌, ◌*◌, ◌+◌, ◌-◌, ◌/◌, ◌<◌, ◌^◌, ◌↔◌, ◌∙◌, ◌≡◌, ◌≤◌, ◌⊎◌, ap, arith, inl, inr, le-leb, le-ltb, lt-ltb, ne_eqb, pow_mono, pow_pos, refl, subst, suc, sym, zero, ℕ, ⊎_elim}
+use Rattle.std.proofs.Common.{List, ◌%◌, ◌*◌, ◌+◌, ◌-◌, ◌/◌, ◌<◌, ◌^◌, ◌↔◌, ◌∙◌, ◌≡◌, ◌≤◌, ◌⊎◌, ap, arith, inl, inr, le-leb, lt-ltb, ne_eqb, pow_mono, pow_pos, refl, suc, sym, zero, ℕ, ⊎_elim}
 use Rattle.std.proofs.Math.Nat.{pow-succ', sub_self}
 use Rattle.std.proofs.lemmas.Bool.{lt-leb}
 use Rattle.laws.proofs.Logic.{le_or_lt}
@@ -36,38 +36,19 @@ module _ (m : ℕ) (T : Tree) where
   -- the left half of the part at v is the part at 2v
   pub part_left : (d h v : ℕ) → suc d + h ≡ m → part_at m (suc d) (2 * v) T ≡ left_of h (part_at m d v T)
   unfolding part_at
-  part_left d h v e =
-      let q : m - suc d ≡ h = omega arith in
-      let x : 2 * v / 2 ≡ v = omega arith in
-      let y : 2 * v % 2 ≡ 0 = omega arith in
-      rw (y, x, q)
+  part_left d h v e = grind arith
 
   -- the right half of the part at v is the part at 2v + 1
   pub part_right : (d h v : ℕ) → suc d + h ≡ m → part_at m (suc d) (2 * v + 1) T ≡ right_of h (part_at m d v T)
   unfolding part_at
-  part_right d h v e =
-      let q : m - suc d ≡ h = omega arith in
-      let x : (2 * v + 1) / 2 ≡ v = omega arith in
-      let y : (2 * v + 1) % 2 ≡ 1 = omega arith in
-      rw (y, x, q)
+  part_right d h v e = grind arith
 
   -- what the root has, and what passes from each node to its halves, every node has
   pub parts_all : (P : ℕ → ℕ → Tree → Type 0) → ((h v : ℕ) (S : Tree) → P (suc h) v S → P h (2 * v) (left_of h S)) → ((h v : ℕ) (S : Tree) → P (suc h) v S → P h (2 * v + 1) (right_of h S))
       → P m 1 T → (d h v : ℕ) → d + h ≡ m → 2 ^ d ≤ v → v < 2 * 2 ^ d → P h v (part_at m d v T)
   unfolding part_at
-  parts_all P l r p zero h v e a b =
-      let x : m ≡ h = omega arith in
-      let y : 1 ≡ v = omega arith in
-      rw (← x, ← y) p
-  parts_all P l r p (suc d) h v e a b = go (parts_all P l r p d (suc h) (v / 2) (omega arith) (omega (arith, pow-succ' 2 d)) (omega (arith, pow-succ' 2 d))) (even_or_odd v)
-    where
-      go : P (suc h) (v / 2) (part_at m d (v / 2) T) → ((v % 2 ≡ 0) × (v ≡ 2 * (v / 2))) ⊎ ((v % 2 ≡ 1) × (v ≡ 2 * (v / 2) + 1)) → P h v (part_at m (suc d) v T)
-      go q (inl z) =
-          let x : m - suc d ≡ h = omega arith in
-          rw (z.0, x) (subst (λ (w : ℕ). P h w (left_of h (part_at m d (v / 2) T))) (sym z.1) (l h (v / 2) (part_at m d (v / 2) T) q))
-      go q (inr z) =
-          let x : m - suc d ≡ h = omega arith in
-          rw (z.0, x) (subst (λ (w : ℕ). P h w (right_of h (part_at m d (v / 2) T))) (sym z.1) (r h (v / 2) (part_at m d (v / 2) T) q))
+  parts_all P l r p zero h v e a b = grind arith
+  parts_all P l r p (suc d) h v e a b = grind (arith, parts_all P l r p d (suc h) (v / 2) (omega arith) (omega (arith, pow-succ' 2 d)) (omega (arith, pow-succ' 2 d)))
 
   -- every part of a tree is a tree
   pub part_wf : WF m T → (d h v : ℕ) → d + h ≡ m → 2 ^ d ≤ v → v < 2 * 2 ^ d → WF h (part_at m d v T)
@@ -89,9 +70,7 @@ root_node m = let z : 2 ^ (m - m) ≡ 1 = ap (λ (x : ℕ). 2 ^ x) (sub_self m) 
 
 -- the leaves are the nodes of height 0
 pub node_leaf : (m v : ℕ) → NodeOf m 0 v ↔ ((2 ^ m ≤ v) × (v < 2 * 2 ^ m))
-node_leaf m v =
-    let z : 2 ^ (m - 0) ≡ 2 ^ m = ap (λ (x : ℕ). 2 ^ x) (omega arith) in
-    (λ n. (omega (arith, n.from), omega (arith, n.below)), λ n. record { from = omega (arith, n.0); below = omega (arith, n.1) })
+node_leaf m v = grind arith
 
 -- a level has twice the nodes of the level above it
 pub next_level : (m h : ℕ) → h < m → 2 ^ (m - h) ≡ 2 * 2 ^ (m - suc h)
@@ -147,6 +126,4 @@ module _ (m : ℕ) (T : Tree) where
   -- a leaf has the bitmap of its part
   pub cell_at_bits : (v : ℕ) → 2 ^ m ≤ v → v < 2 * 2 ^ m → cell_at m T (v + 2 ^ m) ≡ bits_of (part_at m m v T)
   unfolding cell_at
-  cell_at_bits v a b =
-      let x : v + 2 ^ m - 2 ^ m ≡ v = omega arith in
-      rw (ne_eqb (v + 2 ^ m) 0 (λ z. omega (arith, pow_pos m)), le-ltb (v + 2 ^ m) (2 * 2 ^ m) (omega arith), x) refl
+  cell_at_bits v a b = grind arith
