@@ -133,13 +133,7 @@ more_other (suc i) (suc j) n p q = ap (bit_at j) (half_more i n) ∙ more_other 
 
 -- of two digits the larger is 1 where one of them is
 larger_digit : (x y : ℕ) → x < 2 → y < 2 → eqb (max x y) 1 ≡ eqb x 1 || eqb y 1
-larger_digit zero zero p q = refl
-larger_digit zero (suc zero) p q = refl
-larger_digit zero (suc (suc y)) p q = absurd (omega arith)
-larger_digit (suc zero) zero p q = refl
-larger_digit (suc zero) (suc zero) p q = refl
-larger_digit (suc zero) (suc (suc y)) p q = absurd (omega arith)
-larger_digit (suc (suc x)) y p q = absurd (omega arith)
+larger_digit x y p q = grind arith
 
 -- a digit of `bit_or` is 1 where one of the two is
 pub bit_at-bit_or : (c a b : ℕ) → bit_at c (bit_or a b) ≡ bit_at c a || bit_at c b

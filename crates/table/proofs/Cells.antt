@@ -14,11 +14,7 @@ room_le zero (pair l r) = omega arith
 room_le (suc h) (pair l r) = omega (arith, room_le h l, room_le h r)
 
 pub fit_tag : (h : ℕ) (T : Tree) → Fit h T → tag_of T < tag_span
-fit_tag h empty f = omega arith
-fit_tag h whole f = omega arith
-fit_tag zero (cut c b) f = omega (arith, f.0)
-fit_tag (suc h) (cut c b) f = absurd f
-fit_tag h (pair l r) f = omega arith
+fit_tag h T f = grind arith
 
 module _ (t : List ℕ) (pages v : ℕ) where
   pub enc_cell : (h : ℕ) (T : Tree) → Encodes t pages v h T → get_or t v 0 ≡ cell_of h T

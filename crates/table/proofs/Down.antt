@@ -9,7 +9,7 @@ use Rattle.meaning.specs.Blocks.{pages}
 use Rattle.meaning.specs.Search.{has, or_else}
 use Rattle.trees.proofs.Sums.{best_run}
 use Rattle.trees.specs.Leftmost.{first_page, first_run, has_room}
-use Rattle.trees.specs.Tree.{Tree, WF, cut, empty, is_empty, pair, wf_cut, wf_empty, wf_whole, whole}
+use Rattle.trees.specs.Tree.{Tree, WF, cut, empty, is_empty, pair, whole}
 use Rattle.table.proofs.Cells.{cell_mask, cell_room, enc_wf}
 use Rattle.table.proofs.Nodes.{over_add}
 use Rattle.table.proofs.Summaries.{mask_page, room_best}
@@ -147,9 +147,7 @@ descended_run t pages k = descended_finds t pages k (has_room_for k) first_run
 -- and so at a page
 page_end : (f : Tree → Bool) {i j : ℕ} {T : Tree} → WF 0 T → first_page f 0 i T ≡ some j → i ≡ j
 unfolding first_page
-page_end f {i} {j} wf_empty s = here_some (f empty) i j s
-page_end f {i} {j} (wf_cut {c = c} {bits = b} x y z) s = here_some (f (cut c b)) i j s
-page_end f wf_whole s = no_some s
+page_end f w e = grind arith
 
 -- going down by a size gets to the leftmost page that serves it and has a slot
 pub descended_page : (t : List ℕ) (pages c h v q p : ℕ) (T : Tree) → h < 62 → Encodes t pages v h T → first_page (has_room c) h q T ≡ some p → descended (has_size c) h t v + q ≡ v * 2 ^ h + p

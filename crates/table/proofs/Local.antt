@@ -1,12 +1,12 @@
 -- Check-up's local tests: what it is to pass them. Assumes nothing.
 use Rattle.std.proofs.Common.{◌&&◌, ◌+◌, ◌-◌, ◌<◌, ◌^◌, ◌||◌, ◌∙◌, ◌≡◌, ◌≤◌, ap, arith, cond, eq-eqb, eqb, eqb-true, leb, leb-true, ltb, ltb-true, refl, sym, true, ℕ, ⊎_elim}
 use Rattle.std.proofs.lemmas.Bool.{or_cases}
-use Rattle.cells.specs.Cell.{joined, packed, tag_in}
+use Rattle.cells.specs.Cell.{packed, tag_in}
 use Rattle.digits.specs.Digits.{ones}
 use Rattle.laws.proofs.Logic.{and_left, and_right}
 use Rattle.meaning.specs.Blocks.{size_count, slots}
 use Rattle.trees.specs.Tree.{empty, whole}
-use Rattle.table.specs.Local.{LeafCell, NodeCell, cut_leaf, cut_sound, free_leaf, leaf_sound, node_sound, pair_node, whole_leaf, whole_node}
+use Rattle.table.specs.Local.{LeafCell, NodeCell, cut_leaf, cut_sound, free_leaf, leaf_sound, node_sound, whole_leaf}
 use Rattle.table.specs.Table.{cell_of}
 
 -- a page that passes serves a size, and one slot of it is live at least
@@ -54,5 +54,4 @@ node_passes h cell a b e = grind arith
 -- and each such node passes
 pub node_sound_lem : (h cell a b : ℕ) → NodeCell h cell a b → node_sound h cell a b ≡ true
 unfolding node_sound
-node_sound_lem h cell a b (pair_node e) = rw (eq-eqb cell (joined h a b) e) refl
-node_sound_lem h cell a b (whole_node e x y) = grind arith
+node_sound_lem h cell a b n = grind arith

@@ -28,8 +28,7 @@ by_cut tag a b p l = rw (ne_eqb tag whole_tag (λ e. omega arith), lt-ltb 0 tag 
 -- any other node
 pub by_else : (h tag a b : ℕ) → tag ≢ whole_tag → (h ≡ 0 → is_cut tag ≡ false) → by_tag h tag a b ≡ 0
 unfolding by_tag
-by_else zero tag a b n z = rw (ne_eqb tag whole_tag n, z refl) refl
-by_else (suc h) tag a b n z = rw (ne_eqb tag whole_tag n, ne_eqb (suc h) 0 (λ e. omega arith)) refl
+by_else h tag a b p q = grind arith
 
 -- a node without a tag adds nothing
 pub by_none : (h tag a b : ℕ) → tag ≡ 0 → by_tag h tag a b ≡ 0

@@ -21,19 +21,7 @@ module _ (t : List ℕ) (pages : ℕ) where
 
   -- two trees at one leaf are one
   same_leaf : (v : ℕ) (T U : Tree) → tag_of T ≡ tag_of U → Encodes t pages v zero T → Encodes t pages v zero U → T ≡ U
-  same_leaf v empty empty g e f = refl
-  same_leaf v empty (cut c b) g e f = absurd (omega arith)
-  same_leaf v empty whole g e f = absurd (omega arith)
-  same_leaf v empty (pair l r) g e f = absurd f.1
-  same_leaf v (cut c b) empty g e f = absurd (omega arith)
-  same_leaf v (cut c b) (cut d a) g e f = grind arith
-  same_leaf v (cut c b) whole g e f = absurd (omega (arith, e.1.0))
-  same_leaf v (cut c b) (pair l r) g e f = absurd f.1
-  same_leaf v whole empty g e f = absurd (omega arith)
-  same_leaf v whole (cut c b) g e f = absurd (omega (arith, f.1.0))
-  same_leaf v whole whole g e f = refl
-  same_leaf v whole (pair l r) g e f = absurd f.1
-  same_leaf v (pair l r) U g e f = absurd e.1
+  same_leaf v T U g a b = grind arith
 
   -- two trees at one node are one
   pub one_encoded : (h v : ℕ) (T U : Tree) → h < 62 → Encodes t pages v h T → Encodes t pages v h U → T ≡ U

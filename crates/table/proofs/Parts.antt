@@ -1,20 +1,16 @@
 -- The table of a tree as a function of it: each needed cell of a table that holds a tree, and a table that holds it. Assumes nothing.
-use Rattle.std.proofs.Common.{List, ◌%◌, ◌*◌, ◌+◌, ◌-◌, ◌/◌, ◌<◌, ◌^◌, ◌↔◌, ◌∙◌, ◌≡◌, ◌≤◌, ◌⊎◌, ap, arith, inl, inr, le-leb, lt-ltb, ne_eqb, pow_mono, pow_pos, refl, suc, sym, zero, ℕ, ⊎_elim}
+use Rattle.std.proofs.Common.{List, ◌*◌, ◌+◌, ◌-◌, ◌/◌, ◌<◌, ◌^◌, ◌↔◌, ◌∙◌, ◌≡◌, ◌≤◌, ap, arith, le-leb, lt-ltb, ne_eqb, pow_mono, pow_pos, refl, suc, sym, zero, ℕ, ⊎_elim}
 use Rattle.std.proofs.Math.Nat.{pow-succ', sub_self}
 use Rattle.std.proofs.lemmas.Bool.{lt-leb}
 use Rattle.laws.proofs.Logic.{le_or_lt}
 use Rattle.trees.proofs.Changes.{vacant_wf}
-use Rattle.trees.specs.Tree.{Tree, WF, wf_cut, wf_empty, wf_pair, wf_whole}
+use Rattle.trees.specs.Tree.{Tree, WF, wf_pair, wf_whole}
 use Rattle.table.specs.Parts.{NodeOf, cell_at, depth_of, part_at}
 use Rattle.table.specs.Table.{Encodes, Fit, bits_of, cell_of, left_of, right_of}
 
 -- a tree of height h may stand at a node of height h
 pub wf_fit : {h : ℕ} {T : Tree} → WF h T → Fit h T
-wf_fit wf_empty = tt
-wf_fit (wf_cut a b c) = (a, b, c)
-wf_fit (wf_whole {h = zero}) = tt
-wf_fit (wf_whole {h = suc h}) = tt
-wf_fit (wf_pair u v) = tt
+wf_fit w = grind arith
 
 -- the left half of a tree is a tree
 pub left_wf : {h : ℕ} {T : Tree} → WF (suc h) T → WF h (left_of h T)
@@ -25,10 +21,6 @@ left_wf (wf_pair u v) = u
 pub right_wf : {h : ℕ} {T : Tree} → WF (suc h) T → WF h (right_of h T)
 right_wf (wf_whole {h = suc h}) = vacant_wf h
 right_wf (wf_pair u v) = v
-
--- a node is the left half of the one above it, or the right half
-pub even_or_odd : (v : ℕ) → ((v % 2 ≡ 0) × (v ≡ 2 * (v / 2))) ⊎ ((v % 2 ≡ 1) × (v ≡ 2 * (v / 2) + 1))
-even_or_odd v = ⊎_elim (λ (l : v % 2 ≤ 0). inl (omega arith, omega arith)) (λ (l : 0 < v % 2). inr (omega arith, omega arith)) (le_or_lt (v % 2) 0)
 
 -- ---- the parts of a tree
 

@@ -80,9 +80,6 @@ open_slot c taken b = go (lowest_zero (slots c) taken) refl
         let partial : open_bits c taken ≢ 0 = λ x. contra (open_bit c taken i b z.0 ∙ ap not z.1) (ap (bit_at i) x ∙ bit_zero i) in
         rw (e, ne_eqb (open_bits c taken) 0 partial) refl
 
-eqb_swap : (a b : ℕ) → eqb a b ≡ eqb b a
-eqb_swap a b = grind arith
-
 -- a page's mask has the digit of the size that it serves, where it has a slot
 leaf_mask : (c d taken : ℕ) → taken < 2 ^ slots d → bit_at c (mask_of (cut d taken)) ≡ has_room c (cut d taken)
 unfolding has_room

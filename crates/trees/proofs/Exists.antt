@@ -1,5 +1,5 @@
 -- Every allowed set of live blocks is that of a tree, and the blocks of a tree are allowed. Assumes nothing.
-use Rattle.std.proofs.Common.{Bool, [], ◌%◌, ◌*◌, ◌++◌, ◌+◌, ◌-◌, ◌/◌, ◌<◌, ◌^◌, ◌∙◌, ◌∷◌, ◌≡◌, ◌≤◌, add-mul, ap, arith, cond, eqb, false, le-leb, mul_assoc, mul-one, pow_pos, pow-suc, refl, subst, suc, sym, true, zero, zero-add, zero-mul, ℕ, ⊎_elim}
+use Rattle.std.proofs.Common.{Bool, [], ◌%◌, ◌*◌, ◌++◌, ◌+◌, ◌-◌, ◌/◌, ◌<◌, ◌^◌, ◌∙◌, ◌∷◌, ◌≡◌, ◌≤◌, add-mul, ap, arith, cond, eqb, false, mul_assoc, mul-one, pow_pos, pow-suc, refl, subst, suc, sym, true, zero, zero-add, zero-mul, ℕ, ⊎_elim}
 use Rattle.std.proofs.Math.Nat.{pow-succ'}
 use Rattle.std.proofs.lemmas.Bool.{not-true}
 use Rattle.digits.proofs.Digits.{bit_zero, set_lt}
@@ -119,8 +119,7 @@ clear_before {b} (before_some {b' = y} h r) = grind (arith, clear_before r)
 
 insert_before : {b : Block} {L : Live} → b.start < ends b → BeforeAll b L → insert b L ≡ b ∷ L
 unfolding insert
-insert_before n before_none = refl
-insert_before {b} n (before_some {b' = y} h r) = rw (le-leb b.start y.start (omega (arith, h.apart))) refl
+insert_before p h = grind arith
 
 insert_large : {m : ℕ} {T : Tree} → WF m T → (k j : ℕ) → k ≤ m → j < 2 ^ (m - k) → clear (blocks m 0 T) (large k j) ≡ true → After m T (large k j)
 unfolding blocks insert

@@ -56,10 +56,7 @@ tree_held w = ap (λ x. page_bytes * x) (used_pages w 0)
 
 pub best_empty : {h : ℕ} {T : Tree} → WF h T → is_empty T ≡ true → best h T ≡ suc h
 unfolding best is_empty
-best_empty wf_empty e = refl
-best_empty (wf_cut a b c) e = contra e refl
-best_empty wf_whole e = contra e refl
-best_empty (wf_pair u v) e = rw e refl
+best_empty w e = grind arith
 
 pub best_full : {h : ℕ} {T : Tree} → WF h T → is_empty T ≡ false → best h T ≤ h
 unfolding best is_empty
@@ -95,9 +92,7 @@ best_run (wf_pair {h = h} {l = l} {r = r} u v) k (suc d) i e =
 
 room_zero : (b : ℕ) → b ≤ 1 → cond (ltb 0 b) page_bytes 0 ≡ room_bytes b
 unfolding room_bytes
-room_zero zero h = refl
-room_zero (suc zero) h = refl
-room_zero (suc (suc b)) h = absurd (omega arith)
+room_zero b l = grind arith
 
 room_suc : (b k less : ℕ) → b ≤ suc (suc k) → (b ≤ suc k → less ≡ room_bytes b) → cond (ltb (suc k) b) (page_bytes * 2 ^ suc k) less ≡ room_bytes b
 unfolding room_bytes

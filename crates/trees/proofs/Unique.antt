@@ -21,9 +21,7 @@ parts (within_some s n f w) within_none v (within_some s' n' f' v') e = grind ar
 parts (within_some s n f w) (within_some s' n' f' w') v v' e = grind (arith, parts w w' v v')
 
 straddles : {lo mid hi : ℕ} {x y : Live} (b : Block) → Within lo mid x → Within mid hi y → b.start < mid → mid < ends b → b ∷ [] ≡ x ++ y → ⊥
-straddles b within_none within_none s f e = grind arith
-straddles b within_none (within_some s' n' f' v) s f e = grind arith
-straddles b (within_some s' n' f' w) v s f e = grind arith
+straddles b w v s f e = grind arith
 
 cut_unique : (c d a b q : ℕ) → c < size_count → d < size_count → 0 < a → a < 2 ^ slots c → 0 < b → b < 2 ^ slots d
     → slot_blocks c q 0 (slots c) a ≡ slot_blocks d q 0 (slots d) b → cut c a ≡ cut d b
