@@ -1,12 +1,7 @@
 -- What the requests promise of one that is refused at once: refusals 6 and 5, and those of the argument. Assumes nothing.
-use mathlib.Core.Path.{◌∙◌, ◌≡◌, ap, refl, subst, sym}
-use mathlib.Core.Bool.{Bool, cond, false, true}
-use mathlib.Core.List.{List}
-use Prim.Native.Nat.{◌<◌, ◌≤◌, ℕ}
-use borrow.Author.Tests.{eq-eqb, le-leb, le-ltb, leb-true, lt-leb, lt-ltb, ltb-false, ne_eqb}
-use lib.Dec.{leb, ltb}
-use lib.ListN.{length}
-use native.Mathlib.Omega.{arith}
+use Rattle.std.proofs.Common.{Bool, List, ◌<◌, ◌∙◌, ◌≡◌, ◌≤◌, ap, arith, cond, eq-eqb, false, le-leb, le-ltb, leb, leb-true, length, lt-ltb, ltb, ltb-false, ne_eqb, refl, subst, sym, true, ℕ}
+use Rattle.std.proofs.lemmas.Bool.{lt-leb}
+use Rattle.std.proofs.lemmas.Bool.Decides.{nat_tests}
 use Rattle.laws.proofs.AtOnce.{at_once_refused}
 use Rattle.laws.proofs.Exactly.{refusal_changes_nothing}
 use Rattle.meaning.specs.Answers.{Answer, Request, answer, bad_argument, check_up, figures, give_back, refused, refused_at_once, reply, start, take, which}
@@ -46,6 +41,11 @@ pub offset_admitted : (m o : ℕ) → bad_argument m (which o) ≡ 0 → o < are
 unfolding bad_argument
 offset_admitted m o e = grind (arith, nat_tests)
 
+-- give back and which are refused for the same offsets
+pub same_offsets : (m o : ℕ) → bad_argument m (which o) ≡ bad_argument m (give_back o)
+unfolding bad_argument
+same_offsets m o = refl
+
 -- the other requests have no argument
 pub no_argument : (m : ℕ) → (bad_argument m start ≡ 0) × (bad_argument m figures ≡ 0) × (bad_argument m check_up ≡ 0)
 unfolding bad_argument
@@ -83,7 +83,7 @@ refused_at_once_lem {m} {n} {q} {t} r g p e = record {
 }
 
 -- a refusal has a number
-number_pos : (why : Refusal) → 0 < number why
+pub number_pos : (why : Refusal) → 0 < number why
 number_pos NoBytes = omega arith
 number_pos BeyondArena = omega arith
 number_pos NoRoom = omega arith
@@ -92,6 +92,16 @@ number_pos ShortTable = omega arith
 number_pos LargeArena = omega arith
 
 -- so it is where m, the table's length or the argument is refused
-pub not_admitted : {m : ℕ} (q : Request) (t : List ℕ) (why : Refusal) → number why ≡ cond (ltb m_most m) 6 (cond (leb (need m) (length t)) (bad_argument m q) 5) → Promised m q t t (refused (number why))
+pub not_admitted : {m bad : ℕ} (q : Request) (t : List ℕ) (why : Refusal) → bad ≡ bad_argument m q → number why ≡ cond (ltb m_most m) 6 (cond (leb (need m) (length t)) bad 5) → Promised m q t t (refused (number why))
 unfolding refused_at_once
-not_admitted q t why e = refused_at_once_lem (refused (number why)) e (number_pos why) refl
+not_admitted q t why b e = refused_at_once_lem (refused (number why)) (rw b at e) (number_pos why) refl
+
+-- a refusal for m or for the table comes at once
+pub told_at_once : (m : ℕ) (t : List ℕ) (why : Refusal) → number why ≡ cond (ltb m_most m) 6 (cond (leb (need m) (length t)) 0 5) → number why ≡ at_once t m start
+unfolding refused_at_once bad_argument
+told_at_once m t why e = e
+
+-- requests without an argument are refused alike at once
+pub at_once_alike : (m : ℕ) (t : List ℕ) → at_once t m check_up ≡ at_once t m start
+unfolding refused_at_once bad_argument
+at_once_alike m t = refl
