@@ -1,34 +1,44 @@
 -- What a request that works on the needed part of a table promises of the whole table. Assumes nothing.
-use mathlib.Core.Path.{◌∙◌, ◌≡◌, ap, refl, subst, sym}
-use mathlib.Core.Logic.{inl, inr}
-use mathlib.Core.List.{List, ◌++◌}
-use Prim.Native.Nat.{◌<◌, ℕ}
-use lib.ListN.{drop, length, take, take-append-drop}
-use lib.Seq.{drop_at, length_front, length-take-le, take_at}
-use native.Mathlib.Omega.{arith}
-use Rattle.meaning.specs.Answers.{Request, refused}
+use Rattle.std.proofs.Common.{◌*◌, ◌^◌, ◌≤◌, List, ◌++◌, ◌<◌, ◌∙◌, ◌≡◌, ap, arith, drop, drop_at, inl, inr, length, length-take-le, refl, subst, sym, take, take-append-drop, take_at, ℕ}
+use Rattle.std.proofs.Math.Seq.{length_front}
+use Rattle.meaning.specs.Answers.{Answer, Request, refused}
 use Rattle.meaning.specs.Blocks.{Live}
 use Rattle.table.proofs.OneTable.{stands_taken}
 use Rattle.table.specs.Table.{Stands, need}
-use Rattle.terms.specs.Reply.{as_answer}
-use Rattle.terms.specs.declared.Reply.{Reply}
+use Rattle.terms.specs.declared.arenas.Arena.{Arena}
 use Rattle.arena.proofs.Refused.{Promised, Suits, number_of}
 use Rattle.arena.specs.Promises.{Formed, InOrder, Kept, RefusalAlone, Right, at_once, later}
 
 -- what is answered where nothing is refused at once: the later refusal, with the table as it was, or a result
-pub data Settled (q : Request) (t t' : List ℕ) (r : Reply) : Type 0 where
-  refused_later : 0 < later q → as_answer r ≡ refused (later q) → t' ≡ t → Settled q t t' r
+pub data Settled (q : Request) (t t' : List ℕ) (r : Answer) : Type 0 where
+  refused_later : 0 < later q → r ≡ refused (later q) → t' ≡ t → Settled q t t' r
   granted : r.refusal ≡ 0 → Formed q r → Settled q t t' r
 
 -- the refusals are in order
-pub settled_in_order : {m : ℕ} {q : Request} {t p p' : List ℕ} {r : Reply} → at_once t m q ≡ 0 → Settled q p p' r → InOrder m q t r
+pub settled_in_order : {m : ℕ} {q : Request} {t p p' : List ℕ} {r : Answer} → at_once t m q ≡ 0 → Settled q p p' r → InOrder m q t r
 settled_in_order {r = r} z (refused_later p e f) = record { told_at_once = λ x. absurd (omega arith); or_later = λ x. inr (number_of r e); formed = λ x. absurd (omega (arith, number_of r e)) }
 settled_in_order z (granted e g) = record { told_at_once = λ x. absurd (omega arith); or_later = λ x. inl e; formed = λ x. g }
 
 -- a refusal stands alone, if the whole is as it was where the part is
-pub settled_alone : {q : Request} {t t' p p' : List ℕ} {r : Reply} → (p' ≡ p → t' ≡ t) → Settled q p p' r → RefusalAlone t t' r
+pub settled_alone : {q : Request} {t t' p p' : List ℕ} {r : Answer} → (p' ≡ p → t' ≡ t) → Settled q p p' r → RefusalAlone t t' r
 settled_alone {r = r} w (refused_later p e f) = record { values = λ x. e ∙ ap refused (sym (number_of r e)); cells = λ x. w f }
 settled_alone w (granted e g) = record { values = λ x. absurd (omega arith); cells = λ x. absurd (omega arith) }
+
+-- a book of the arena of m is made of the first k cells of t
+pub record Lent (m a k : ℕ) (t part : List ℕ) : Type 0 where
+  pub same : a ≡ m
+  pub suits : Suits m (length t)
+  pub count : k ≡ need m
+  pub cells : part ≡ take k t
+
+-- as a request makes it, once the arena was admitted
+pub lent : {m bad k : ℕ} {t part : List ℕ} {made arena : Arena} → (made.m ≡ m) × (need m ≤ length t) × (bad ≡ 0) → arena ≡ made → k ≡ 3 * 2 ^ made.m → part ≡ take k t → Lent m arena.m k t part
+lent {arena = arena} ok e count cells = record {
+  same = ap (λ (x : Arena). x.m) e ∙ ok.0;
+  suits = record { small_m = let same = ap (λ (x : Arena). x.m) e in let small = arena.in_range in omega arith; long = ok.1 };
+  count = count ∙ ap (λ (x : ℕ). 3 * 2 ^ x) ok.0;
+  cells = cells;
+}
 
 module _ {m : ℕ} (t : List ℕ) (s : Suits m (length t)) (k : ℕ) (e : k ≡ need m) where
   -- the part has as many cells as are needed
@@ -61,7 +71,7 @@ module _ {m : ℕ} (t : List ℕ) (s : Suits m (length t)) (k : ℕ) (e : k ≡ 
         (subst (λ (y : List ℕ). Stands m L y) (sym (take_at p (drop k t) (need m) (l ∙ part_long))) x)
 
     -- what is promised of the part is promised of the whole
-    pub served : {q : Request} (r : Reply) → at_once t m q ≡ 0 → Settled q (take k t) p r → Right m q (take k t) p r → Promised m q t (p ++ drop k t) r
+    pub served : {q : Request} (r : Answer) → at_once t m q ≡ 0 → Settled q (take k t) p r → Right m q (take k t) p r → Promised m q t (p ++ drop k t) r
     served r z f g = record {
       in_order = settled_in_order z f;
       alone = settled_alone whole_same f;
@@ -70,5 +80,5 @@ module _ {m : ℕ} (t : List ℕ) (s : Suits m (length t)) (k : ℕ) (e : k ≡ 
     }
 
   -- and so it is where the table is only read
-  pub served_reading : {q : Request} (r : Reply) → at_once t m q ≡ 0 → Settled q (take k t) (take k t) r → Right m q (take k t) (take k t) r → Promised m q t t r
+  pub served_reading : {q : Request} (r : Answer) → at_once t m q ≡ 0 → Settled q (take k t) (take k t) r → Right m q (take k t) (take k t) r → Promised m q t t r
   served_reading {q} r z f g = subst (λ (x : List ℕ). Promised m q t x r) (take-append-drop k t) (served (take k t) refl r z f g)

@@ -1,6 +1,5 @@
 -- Document 01, section 1: how long a table is. Assumes nothing.
-use Prim.Native.Nat.{◌*◌, ◌+◌, ◌^◌, ◌≤◌, ℕ}
-use native.Mathlib.Omega.{arith}
+use Rattle.std.proofs.Common.{◌*◌, ◌+◌, ◌^◌, ◌≤◌, arith, ℕ}
 use Rattle.table.specs.Table.{need}
 
 -- a table, of cells of 8 bytes, takes at most 32 bytes for each page and 256 bytes more

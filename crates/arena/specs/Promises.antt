@@ -1,10 +1,8 @@
 -- What a request promises: of any table whatever, and of a table that stands for a set of live blocks. Assumes nothing.
 use Rattle.std.specs.Prelude.{◌≡◌, ◌⊎◌, List, [], ◌+◌, ◌<◌, ◌≤◌, ℕ, leb, drop, length}
-use Rattle.meaning.specs.Answers.{Request, after, answer, check_up, done, figures, found, give_back, offset, refused, refused_at_once, size_given, sound, start, take, three, unsound, which}
+use Rattle.meaning.specs.Answers.{Answer, Request, after, answer, check_up, done, figures, found, give_back, offset, refused, refused_at_once, size_given, sound, start, take, three, unsound, which}
 use Rattle.meaning.specs.Blocks.{Live, arena}
 use Rattle.table.specs.Table.{Stands, need}
-use Rattle.terms.specs.Reply.{as_answer}
-use Rattle.terms.specs.declared.Reply.{Reply}
 
 -- the number of the refusal that comes before all others, by the table's length, m and the request; 0 where there is none
 abbrev pub at_once : List ℕ → ℕ → Request → ℕ
@@ -20,24 +18,24 @@ later (give_back o) = 4
 later (which o) = 4
 
 -- an answer of the request's form: it has the values that the request tells, and 0 for the others; check-up tells 1 or 0
-abbrev pub Formed : Request → Reply → Type 0
-Formed start r = as_answer r ≡ done
-Formed figures r = as_answer r ≡ three r.first r.second r.third
-Formed check_up r = (as_answer r ≡ sound) ⊎ (as_answer r ≡ unsound)
-Formed (take n) r = as_answer r ≡ offset r.first
-Formed (give_back o) r = as_answer r ≡ done
-Formed (which o) r = as_answer r ≡ found (record { start = r.first; size = r.second })
+abbrev pub Formed : Request → Answer → Type 0
+Formed start r = r ≡ done
+Formed figures r = r ≡ three r.first r.second r.third
+Formed check_up r = (r ≡ sound) ⊎ (r ≡ unsound)
+Formed (take n) r = r ≡ offset r.first
+Formed (give_back o) r = r ≡ done
+Formed (which o) r = r ≡ found (record { start = r.first; size = r.second })
 
 -- the refusals are tried in document 01's order: 6, 5, those of the argument, and last the one that depends on the live blocks; what is not refused is
 -- answered in the request's form
-pub record InOrder (m : ℕ) (q : Request) (t : List ℕ) (r : Reply) : Type 0 where
-  pub told_at_once : 0 < at_once t m q → as_answer r ≡ refused (at_once t m q)
+pub record InOrder (m : ℕ) (q : Request) (t : List ℕ) (r : Answer) : Type 0 where
+  pub told_at_once : 0 < at_once t m q → r ≡ refused (at_once t m q)
   pub or_later : at_once t m q ≡ 0 → (r.refusal ≡ 0) ⊎ (r.refusal ≡ later q)
   pub formed : r.refusal ≡ 0 → Formed q r
 
 -- beside a refusal number every value is 0, and every cell is as it was
-pub record RefusalAlone (t t' : List ℕ) (r : Reply) : Type 0 where
-  pub values : 0 < r.refusal → as_answer r ≡ refused r.refusal
+pub record RefusalAlone (t t' : List ℕ) (r : Answer) : Type 0 where
+  pub values : 0 < r.refusal → r ≡ refused r.refusal
   pub cells : 0 < r.refusal → t' ≡ t
 
 -- the length is kept, and every cell beyond the needed ones
@@ -46,25 +44,25 @@ pub record Kept (m : ℕ) (t t' : List ℕ) : Type 0 where
   pub beyond : drop (need m) t' ≡ drop (need m) t
 
 -- an offset answered by take lies in the arena, with its whole block
-abbrev pub TakenInside : ℕ → ℕ → Reply → Type 0
+abbrev pub TakenInside : ℕ → ℕ → Answer → Type 0
 TakenInside m n r = r.refusal ≡ 0 → r.first + size_given m n ≤ arena m
 
 -- a block told by which lies in the arena and holds the byte asked for
-pub record ToldInside (m o : ℕ) (r : Reply) : Type 0 where
+pub record ToldInside (m o : ℕ) (r : Answer) : Type 0 where
   pub from : r.refusal ≡ 0 → r.first ≤ o
   pub to : r.refusal ≡ 0 → o < r.first + r.second
   pub inside : r.refusal ≡ 0 → r.first + r.second ≤ arena m
 
 -- on a table that stands for L the answer is that of the meaning, and the table stands for the live blocks afterwards
-abbrev pub Right : ℕ → Request → List ℕ → List ℕ → Reply → Type 0
-Right m q t t' r = (L : Live) → Stands m L t → (as_answer r ≡ answer m L q) × Stands m (after m L q) t'
+abbrev pub Right : ℕ → Request → List ℕ → List ℕ → Answer → Type 0
+Right m q t t' r = (L : Live) → Stands m L t → (r ≡ answer m L q) × Stands m (after m L q) t'
 
 -- start: whatever the table held, it stands for no live block afterwards
-abbrev pub Started : ℕ → List ℕ → List ℕ → Reply → Type 0
-Started m t t' r = at_once t m start ≡ 0 → (as_answer r ≡ done) × Stands m [] t'
+abbrev pub Started : ℕ → List ℕ → List ℕ → Answer → Type 0
+Started m t t' r = at_once t m start ≡ 0 → (r ≡ done) × Stands m [] t'
 
 -- check-up: it says sound exactly where the table stands for some set of live blocks, and unsound exactly where it stands for none
-pub record Exact (m : ℕ) (t : List ℕ) (r : Reply) : Type 0 where
-  pub verdict : at_once t m check_up ≡ 0 → (as_answer r ≡ sound) ⊎ (as_answer r ≡ unsound)
-  pub says_sound : as_answer r ≡ sound → (L : Live) × Stands m L t
-  pub is_sound : (L : Live) → Stands m L t → as_answer r ≡ sound
+pub record Exact (m : ℕ) (t : List ℕ) (r : Answer) : Type 0 where
+  pub verdict : at_once t m check_up ≡ 0 → (r ≡ sound) ⊎ (r ≡ unsound)
+  pub says_sound : r ≡ sound → (L : Live) × Stands m L t
+  pub is_sound : (L : Live) → Stands m L t → r ≡ sound

@@ -6,13 +6,11 @@ use Prim.Native.Nat.{◌<◌, suc, zero, ℕ}
 use native.Mathlib.Omega.{arith}
 use Rattle.arena.specs.Promises.{Exact, Formed, InOrder, RefusalAlone, Right, Started, at_once, later}
 use Rattle.meaning.specs.Answers.{Answer, Request, check_up, figures, found, give_back, offset, refused, sound, start, take, unsound, which}
-use Rattle.terms.specs.Reply.{as_answer}
-use Rattle.terms.specs.declared.Reply.{Reply}
 use Rattle.capi.proofs.Shown.{shown, shown_answer, shown_number, shown_refused}
 use Rattle.capi.specs.Said.{said}
 
 -- the form is kept
-said_formed : (q : Request) (r s : Reply) → as_answer s ≡ shown q (as_answer r) → Formed q r → Formed q s
+said_formed : (q : Request) (r s : Answer) → s ≡ shown q (r) → Formed q r → Formed q s
 said_formed start r s e f = e ∙ ap (shown start) f
 said_formed figures r s e f = ap (λ (n : ℕ). record { refusal = n; first = s.first; second = s.second; third = s.third }) (ap (λ (a : Answer). a.refusal) (e ∙ f))
 said_formed check_up r s e (inl f) = inl (e ∙ ap (shown check_up) f)
@@ -21,13 +19,13 @@ said_formed (take n) r s e f = e ∙ (ap (shown (take n)) f ∙ ap offset (sym (
 said_formed (give_back o) r s e f = e ∙ ap (shown (give_back o)) f
 said_formed (which o) r s e f = let g = e ∙ ap (shown (which o)) f in g ∙ ap₂ (λ (x y : ℕ). found (record { start = x; size = y })) (sym (ap (λ (a : Answer). a.first) e)) (sym (ap (λ (a : Answer). a.second) e))
 
-module _ (q : Request) (r s : Reply) (same : as_answer s ≡ shown q (as_answer r)) where
+module _ (q : Request) (r s : Answer) (same : s ≡ shown q (r)) where
   -- the numbers are the same
   pub said_number : s.refusal ≡ r.refusal
-  said_number = ap (λ (a : Answer). a.refusal) same ∙ shown_number q (as_answer r)
+  said_number = ap (λ (a : Answer). a.refusal) same ∙ shown_number q (r)
 
   -- a refusal is handed back as it is
-  pub said_refused : {n : ℕ} → as_answer r ≡ refused n → as_answer s ≡ refused n
+  pub said_refused : {n : ℕ} → r ≡ refused n → s ≡ refused n
   said_refused {n} e = same ∙ (ap (shown q) e ∙ shown_refused q n)
 
   -- the refusals come in the same order
@@ -50,11 +48,11 @@ module _ (q : Request) (r s : Reply) (same : as_answer s ≡ shown q (as_answer 
   said_right {m} w L x = (same ∙ (ap (shown q) (w L x).0 ∙ shown_answer m L q), (w L x).1)
 
 -- start: no value is handed back
-pub said_started : {m : ℕ} (t : List ℕ) {t' : List ℕ} (r : Reply) → Started m t t' r → Started m t t' (said r.refusal 0 0 0)
+pub said_started : {m : ℕ} (t : List ℕ) {t' : List ℕ} (r : Answer) → Started m t t' r → Started m t t' (said r.refusal 0 0 0)
 said_started t r w x = (ap (shown start) (w x).0, (w x).1)
 
 -- check-up: the verdict is handed back, and no other value
-pub said_exact : {m : ℕ} {t : List ℕ} (r : Reply) → InOrder m check_up t r → Exact m t r → Exact m t (said r.refusal r.first 0 0)
+pub said_exact : {m : ℕ} {t : List ℕ} (r : Answer) → InOrder m check_up t r → Exact m t r → Exact m t (said r.refusal r.first 0 0)
 said_exact {m} {t} r i w = record {
   verdict = λ z. elim (w.verdict z) [ inl e ↦ inl (ap (shown check_up) e) | inr e ↦ inr (ap (shown check_up) e) ];
   says_sound = λ e. w.says_sound (whole (at_once t m check_up) refl e);
@@ -62,10 +60,10 @@ said_exact {m} {t} r i w = record {
 }
   where
     -- what reads as sound is sound: refused at once it would have a number, and unsound is 0
-    whole : (n : ℕ) → at_once t m check_up ≡ n → as_answer (said r.refusal r.first 0 0) ≡ sound → as_answer r ≡ sound
+    whole : (n : ℕ) → at_once t m check_up ≡ n → said r.refusal r.first 0 0 ≡ sound → r ≡ sound
     whole zero z e = judged (w.verdict z)
       where
-        judged : (as_answer r ≡ sound) ⊎ (as_answer r ≡ unsound) → as_answer r ≡ sound
+        judged : (r ≡ sound) ⊎ (r ≡ unsound) → r ≡ sound
         judged (inl g) = g
         judged (inr g) = absurd (omega (arith, ap (λ (a : Answer). a.first) g, ap (λ (a : Answer). a.first) e))
     whole (suc n) z e =

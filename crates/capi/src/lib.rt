@@ -23,8 +23,8 @@ pub fn ba_start(table: &mut [u64], m: u64) -> u64
     ensures stays_inside { Kept m table.old table.new }
     ensures right { Started m table.old table.new (said result 0 0 0) }
 {
-    let counted = arena::start(table, m);
-    counted.reply.refusal
+    let [refusal, ..] = arena::start(table, m).numbers();
+    refusal
 }
 
 pub fn ba_take(table: &mut [u64], m: u64, n: u64, offset: &mut u64) -> u64
@@ -33,10 +33,9 @@ pub fn ba_take(table: &mut [u64], m: u64, n: u64, offset: &mut u64) -> u64
     ensures stays_inside { Kept m table.old table.new × TakenInside m n (said result offset.new 0 0) }
     ensures right { Right m (ask_take n) table.old table.new (said result offset.new 0 0) }
 {
-    let counted = arena::take(table, m, n);
-    let reply = counted.reply;
-    *offset = reply.first;
-    reply.refusal
+    let [refusal, first, ..] = arena::take(table, m, n).numbers();
+    *offset = first;
+    refusal
 }
 
 pub fn ba_give_back(table: &mut [u64], m: u64, offset: u64) -> u64
@@ -45,8 +44,8 @@ pub fn ba_give_back(table: &mut [u64], m: u64, offset: u64) -> u64
     ensures stays_inside { Kept m table.old table.new }
     ensures right { Right m (ask_give_back offset) table.old table.new (said result 0 0 0) }
 {
-    let counted = arena::give_back(table, m, offset);
-    counted.reply.refusal
+    let [refusal, ..] = arena::give_back(table, m, offset).numbers();
+    refusal
 }
 
 pub fn ba_which(table: &[u64], m: u64, offset: u64, start: &mut u64, size: &mut u64) -> u64
@@ -55,11 +54,10 @@ pub fn ba_which(table: &[u64], m: u64, offset: u64, start: &mut u64, size: &mut 
     ensures stays_inside { ToldInside m offset (said result start.new size.new 0) }
     ensures right { Right m (ask_which offset) table.now table.now (said result start.new size.new 0) }
 {
-    let counted = arena::which(table, m, offset);
-    let reply = counted.reply;
-    *start = reply.first;
-    *size = reply.second;
-    reply.refusal
+    let [refusal, first, second, _] = arena::which(table, m, offset).numbers();
+    *start = first;
+    *size = second;
+    refusal
 }
 
 pub fn ba_figures(table: &[u64], m: u64, live: &mut u64, held: &mut u64, room: &mut u64) -> u64
@@ -67,12 +65,11 @@ pub fn ba_figures(table: &[u64], m: u64, live: &mut u64, held: &mut u64, room: &
     ensures refusal_alone { RefusalAlone table.now table.now (said result live.new held.new room.new) }
     ensures right { Right m ask_figures table.now table.now (said result live.new held.new room.new) }
 {
-    let counted = arena::figures(table, m);
-    let reply = counted.reply;
-    *live = reply.first;
-    *held = reply.second;
-    *room = reply.third;
-    reply.refusal
+    let [refusal, first, second, third] = arena::figures(table, m).numbers();
+    *live = first;
+    *held = second;
+    *room = third;
+    refusal
 }
 
 pub fn ba_check_up(table: &[u64], m: u64, sound: &mut u64) -> u64
@@ -80,8 +77,7 @@ pub fn ba_check_up(table: &[u64], m: u64, sound: &mut u64) -> u64
     ensures refusal_alone { RefusalAlone table.now table.now (said result sound.new 0 0) }
     ensures exact { Exact m table.now (said result sound.new 0 0) }
 {
-    let counted = arena::check_up(table, m);
-    let reply = counted.reply;
-    *sound = reply.first;
-    reply.refusal
+    let [refusal, first, ..] = arena::check_up(table, m).numbers();
+    *sound = first;
+    refusal
 }

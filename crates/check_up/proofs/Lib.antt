@@ -1,3 +1,2 @@
--- The local tests case by case, and what the loops' verdicts mean.
-pub mod Cases
+-- What the loops' verdicts mean.
 pub mod Verdict

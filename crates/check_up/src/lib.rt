@@ -1,117 +1,91 @@
 // Check-up (document 01, section 3), on a table of exactly the cells needed: the local tests of docs/TABLE.md, level by level.
 #![tactic(auto)]
 
-ghost use Rattle.std.specs.Prelude.{◌≡◌, ◌*◌, ◌+◌, ◌-◌, ◌<◌, ◌≤◌, ◌^◌, length};
+ghost use Rattle.std.specs.Prelude.{◌≡◌, ◌*◌, ◌+◌, ◌-◌, ◌<◌, ◌≤◌, ◌^◌};
 ghost use Rattle.meaning.specs.Blocks.{m_most};
-ghost use Rattle.table.specs.Table.{need};
 ghost use Rattle.table.specs.Local.{leaf_sound, node_sound, sound_at};
+ghost use Rattle.walks.specs.Books.{IsKept, cells_of, spent_of};
 ghost use Rattle.check_up.specs.Checked.{Checked, LevelChecked};
 
-use cells::{all_open, get, join, page_cell, tag_of, vacant_cell, whole_cell};
-use terms::{SIZE_COUNT, page_count, slot_count};
+use cells::{Tag, all_open, join, page_cell, tag_of, vacant_cell, whole_cell};
+use walks::{Shown, map_of};
 
 // The test of a leaf: its cell and its bitmap.
+#[tactic(auto, unfolding(table::specs::Local::leaf_sound, table::specs::Local::cut_sound))]
 fn leaf_sound(cell: u64, bits: u64) -> bool
     ensures { result ≡ leaf_sound cell bits }
 {
-    if cell == vacant_cell(0) {
-        return bits == 0;
+    match tag_of(cell) {
+        None => cell == vacant_cell(0) && bits == 0,
+        Some(Tag::Whole) => cell == whole_cell() && bits == 0,
+        Some(Tag::Page(size)) => bits < all_open(size.slots()) && cell == page_cell(size, bits),
+        Some(Tag::Other(_)) => false,
     }
-    if cell == whole_cell() {
-        return bits == 0;
-    }
-    let tag = tag_of(cell);
-    if tag == 0 {
-        return false;
-    }
-    if SIZE_COUNT < tag {
-        return false;
-    }
-    if all_open(slot_count(tag - 1)) <= bits {
-        return false;
-    }
-    cell == page_cell(tag - 1, bits)
 }
 
 // The test of a node over two halves of height h: its cell and theirs.
+#[tactic(auto, unfolding(table::specs::Local::node_sound))]
 fn node_sound(h: u64, cell: u64, left: u64, right: u64) -> bool
     requires { h ≤ m_most }
     ensures { result ≡ node_sound h cell left right }
 {
-    if cell == join(left, right, h) {
-        return true;
-    }
-    if cell != whole_cell() {
-        return false;
-    }
-    if left != vacant_cell(h) {
-        return false;
-    }
-    right == vacant_cell(h)
+    let vacant = vacant_cell(h);
+    cell == join(left, right, h) || cell == whole_cell() && left == vacant && right == vacant
 }
 
 // The test of the node v of height h.
-fn sound_at(t: &[u64], m: u64, h: u64, v: usize, spent: &mut u64) -> bool
-    requires m_in_range { m ≤ m_most }
-    requires h_in_range { h ≤ m }
-    requires whole_table { length t.now ≡ need m }
-    requires v_below { v < 2 * 2 ^ (m - h) }
-    requires few_spent { spent.old < 2 ^ 31 }
-    ensures verdict { result ≡ sound_at t.now (2 ^ m) h v }
-    ensures cost { spent.new ≤ spent.old + 3 }
-    ensures cost_leaf { h ≡ 0 → spent.new ≤ spent.old + 2 }
+fn sound_at(book: &mut Shown<'_>, h: u64, v: usize) -> bool
+    requires h_in_range { h ≤ book.old.arena.m }
+    requires v_below { v < 2 * 2 ^ (book.old.arena.m - h) }
+    requires few_spent { spent_of book.old < 2 ^ 31 }
+    ensures kept { IsKept book.old book.new }
+    ensures verdict { result ≡ sound_at (cells_of book.old) (2 ^ book.old.arena.m) h v }
+    ensures cost { spent_of book.new ≤ spent_of book.old + 3 }
+    ensures cost_leaf { h ≡ 0 → spent_of book.new ≤ spent_of book.old + 2 }
 {
-    let cell = get(t, v, &mut *spent);
+    let cell = book.get(v);
     if h == 0 {
-        let bits = get(t, v + page_count(m), &mut *spent);
-        return leaf_sound(cell, bits);
+        let bits = book.get(map_of(book.arena, v));
+        leaf_sound(cell, bits)
+    } else {
+        let left = book.get(2 * v);
+        let right = book.get(2 * v + 1);
+        node_sound(h - 1, cell, left, right)
     }
-    let left = get(t, 2 * v, &mut *spent);
-    let right = get(t, 2 * v + 1, &mut *spent);
-    node_sound(h - 1, cell, left, right)
 }
 
-// The tests of all nodes of height h, of which the first is `first`.
-fn level_sound(t: &[u64], m: u64, h: u64, first: usize, spent: &mut u64) -> bool
-    requires m_in_range { m ≤ m_most }
-    requires h_in_range { h ≤ m }
-    requires first_of_level { first ≡ 2 ^ (m - h) }
-    requires whole_table { length t.now ≡ need m }
-    requires few_spent { spent.old < 2 ^ 30 }
-    ensures verdict { LevelChecked t.now (2 ^ m) h first (2 * first) result }
-    ensures cost { spent.new ≤ spent.old + 3 * first }
-    ensures cost_leaves { h ≡ 0 → spent.new ≤ spent.old + 2 * first }
+// The tests of all nodes of height h.
+fn level_sound(book: &mut Shown<'_>, h: u64) -> bool
+    requires h_in_range { h ≤ book.old.arena.m }
+    requires few_spent { spent_of book.old < 2 ^ 30 }
+    ensures kept { IsKept book.old book.new }
+    ensures verdict { let first = 2 ^ (book.old.arena.m - h) in LevelChecked (cells_of book.old) (2 ^ book.old.arena.m) h first (2 * first) result }
+    ensures cost { spent_of book.new ≤ spent_of book.old + 3 * 2 ^ (book.old.arena.m - h) }
+    ensures cost_leaves { h ≡ 0 → spent_of book.new ≤ spent_of book.old + 2 * 2 ^ (book.old.arena.m - h) }
 {
-    let mut v = first;
-    while v < 2 * first {
-        if !sound_at(t, m, h, v, &mut *spent) {
+    let first = book.arena.pages() >> h;
+    for v in first..2 * first {
+        if !sound_at(book, h, v) {
             return false;
         }
-        v = v + 1;
     }
     true
 }
 
 // Whether the table is sound.
-pub fn check_table(t: &[u64], m: u64, spent: &mut u64) -> bool
-    requires m_in_range { m ≤ m_most }
-    requires whole_table { length t.now ≡ need m }
-    requires few_spent { spent.old < 2 ^ 20 }
-    ensures verdict { Checked m t.now result }
-    ensures cost { spent.new + 2 ≤ spent.old + 5 * 2 ^ m }
+pub fn check_table(book: &mut Shown<'_>) -> bool
+    requires few_spent { spent_of book.old < 2 ^ 20 }
+    ensures kept { IsKept book.old book.new }
+    ensures verdict { Checked book.old.arena.m (cells_of book.old) result }
+    ensures cost { spent_of book.new + 2 ≤ spent_of book.old + 5 * 2 ^ book.old.arena.m }
 {
-    let spare = get(t, 0, &mut *spent);
-    if spare != 0 {
+    if book.get(0) != 0 {
         return false;
     }
-    let mut first = page_count(m);
-    let mut h: u64 = 0;
-    while h <= m {
-        if !level_sound(t, m, h, first, &mut *spent) {
+    for h in 0..=book.arena.m {
+        if !level_sound(book, h) {
             return false;
         }
-        first = first / 2;
-        h = h + 1;
     }
     true
 }

@@ -1,17 +1,10 @@
 -- The laws of digits: two numbers with the same digits are equal; one digit set or cleared; either of two numbers' digits; all digits turned
 -- over; how many are 1. Assumes nothing.
-use mathlib.Core.Path.{◌∙◌, ◌≡◌, ap, refl, sym}
-use mathlib.Core.Logic.{◌≢◌, ◌⊎◌, inl, inr, ⊎_elim}
-use mathlib.Core.Bool.{◌||◌, false, not, true}
-use Prim.Native.Nat.{◌%◌, ◌*◌, ◌+◌, ◌-◌, ◌/◌, ◌<◌, ◌^◌, ◌≤◌, max, suc, zero, ℕ}
-use borrow.Author.Tests.{eq-eqb, eqb-false, eqb-true, ne_eqb}
-use lib.Bits.{bit_or, or_step}
-use lib.Dec.{eqb, eqb-suc-suc, eqb-suc-zero, eqb-zero-suc}
-use lib.Pow.{pow_pos, shr-shr}
-use native.Mathlib.Nat.{eq-or-lt_of_le, pow-suc}
-use native.Mathlib.Numerals.{one-add, sub-one}
-use native.Mathlib.Omega.{arith}
-use Rattle.laws.proofs.Logic.{contra, le_or_lt, split}
+use Rattle.std.proofs.Common.{◌%◌, ◌*◌, ◌+◌, ◌-◌, ◌/◌, ◌<◌, ◌^◌, ◌||◌, ◌∙◌, ◌≡◌, ◌≢◌, ◌≤◌, ap, arith, bit_or, eq-eqb, eqb, eqb-true, false, max, ne_eqb, not, one-add, pow_pos, pow-suc, refl, shr-shr, sub-one, suc, sym, true, zero, ℕ, ⊎_elim}
+use Rattle.std.proofs.Math.Dec.{eqb-suc-zero, eqb-zero-suc}
+use Rattle.std.proofs.lemmas.Bool.{cases_order, eqb-false}
+use Rattle.std.specs.Int.Bits.{or_step}
+use Rattle.laws.proofs.Logic.{contra, split}
 use Rattle.digits.specs.Digits.{First, bit_at, ones}
 
 -- 0 has no digit 1
@@ -94,9 +87,7 @@ some_digit (suc n) x p l =
 
 -- below a digit 1 there are fewer than all digits
 pub zeros_lt : (n k x : ℕ) → 0 < x → x < 2 ^ n → ((j : ℕ) → j < k → bit_at j x ≡ false) → k < n
-zeros_lt n k x p l h =
-    let d = some_digit n x p l in
-    ⊎_elim (λ e. omega (arith, d.1)) (λ e. contra d.2 (h d.0 e)) (le_or_lt k d.0)
+zeros_lt n k x p l h = grind (arith, some_digit n x p l)
 
 -- ---- a digit cleared
 
@@ -114,9 +105,7 @@ less_same (suc i) n p = ap (bit_at i) (half_less i n) ∙ less_same i (n / 2) p
 pub less_other : (i j n : ℕ) → bit_at i n ≡ true → j ≢ i → bit_at j (n - 2 ^ i) ≡ bit_at j n
 unfolding bit_at
 less_other zero zero n p q = absurd (q refl)
-less_other zero (suc j) n p q =
-    let e : (n - 1) / 2 ≡ n / 2 = omega (arith, lowest_true n p) in
-    ap (bit_at j) e
+less_other zero (suc j) n p q = grind arith
 less_other (suc i) zero n p q = lowest_same (n - 2 ^ suc i) n (omega (arith, pow-suc 2 i, bit_le (suc i) n p))
 less_other (suc i) (suc j) n p q = ap (bit_at j) (half_less i n) ∙ less_other i j (n / 2) p (λ x. q (ap suc x))
 
@@ -136,9 +125,7 @@ more_same (suc i) n p = ap (bit_at i) (half_more i n) ∙ more_same i (n / 2) p
 pub more_other : (i j n : ℕ) → bit_at i n ≡ false → j ≢ i → bit_at j (n + 2 ^ i) ≡ bit_at j n
 unfolding bit_at
 more_other zero zero n p q = absurd (q refl)
-more_other zero (suc j) n p q =
-    let e : (n + 1) / 2 ≡ n / 2 = omega (arith, lowest_false n p) in
-    ap (bit_at j) e
+more_other zero (suc j) n p q = grind arith
 more_other (suc i) zero n p q = lowest_same (n + 2 ^ suc i) n (omega (arith, pow-suc 2 i))
 more_other (suc i) (suc j) n p q = ap (bit_at j) (half_more i n) ∙ more_other i j (n / 2) p (λ x. q (ap suc x))
 
@@ -146,13 +133,7 @@ more_other (suc i) (suc j) n p q = ap (bit_at j) (half_more i n) ∙ more_other 
 
 -- of two digits the larger is 1 where one of them is
 larger_digit : (x y : ℕ) → x < 2 → y < 2 → eqb (max x y) 1 ≡ eqb x 1 || eqb y 1
-larger_digit zero zero p q = refl
-larger_digit zero (suc zero) p q = refl
-larger_digit zero (suc (suc y)) p q = absurd (omega arith)
-larger_digit (suc zero) zero p q = refl
-larger_digit (suc zero) (suc zero) p q = refl
-larger_digit (suc zero) (suc (suc y)) p q = absurd (omega arith)
-larger_digit (suc (suc x)) y p q = absurd (omega arith)
+larger_digit x y p q = grind arith
 
 -- a digit of `bit_or` is 1 where one of the two is
 pub bit_at-bit_or : (c a b : ℕ) → bit_at c (bit_or a b) ≡ bit_at c a || bit_at c b
@@ -170,9 +151,7 @@ unfolding bit_at
 bit_pow zero zero = refl
 bit_pow zero (suc x) = ne_eqb (2 ^ suc x % 2) 1 (λ e. omega (arith, pow-suc 2 x)) ∙ sym (eqb-zero-suc x)
 bit_pow (suc c) zero = bit_zero c ∙ sym (eqb-suc-zero c)
-bit_pow (suc c) (suc x) =
-    let e : 2 ^ suc x / 2 ≡ 2 ^ x = omega (arith, pow-suc 2 x) in
-    ap (bit_at c) e ∙ bit_pow c x ∙ sym (eqb-suc-suc c x)
+bit_pow (suc c) (suc x) = grind (arith, bit_pow c x)
 
 -- ---- the n lowest digits turned over
 
@@ -184,13 +163,7 @@ half_complement n x l = omega (arith, pow-suc 2 n, pow_pos n)
 pub bit_complement : (n i x : ℕ) → i < n → x < 2 ^ n → bit_at i (ones n - x) ≡ not (bit_at i x)
 unfolding bit_at
 bit_complement zero i x h l = absurd (omega arith)
-bit_complement (suc n) zero x h l =
-    ⊎_elim
-    (λ (t : bit_at 0 x ≡ true).
-    ne_eqb ((ones (suc n) - x) % 2) 1 (λ e. omega (arith, lowest_true x t, pow-suc 2 n, pow_pos n)) ∙ sym (ap not t))
-    (λ (t : bit_at 0 x ≡ false).
-    eq-eqb ((ones (suc n) - x) % 2) 1 (omega (arith, lowest_false x t, pow-suc 2 n, pow_pos n)) ∙ sym (ap not t))
-    (split (bit_at 0 x))
+bit_complement (suc n) zero x h l = grind arith
 bit_complement (suc n) (suc i) x h l = ap (bit_at i) (half_complement n x l) ∙ bit_complement n i (x / 2) (omega arith) (omega (arith, pow-suc 2 n))
 
 -- a number with no digit 1 is 0
@@ -199,8 +172,4 @@ bits_none n x p h = bits_ext n x 0 p (omega arith) (λ i l. h i l ∙ sym (bit_z
 
 -- a number has one lowest digit
 pub first_one : (bits i j : ℕ) → First bits i → First bits j → i ≡ j
-first_one bits i j a b = go (le_or_lt i j)
-  where
-    go : (i ≤ j) ⊎ (j < i) → i ≡ j
-    go (inl l) = ⊎_elim (λ (e : i ≡ j). e) (λ (e : i < j). contra a.there (b.first i e)) (eq-or-lt_of_le l)
-    go (inr l) = contra b.there (a.first j l)
+first_one bits i j a b = ⊎_elim (λ e. e) (⊎_elim (λ (l : i < j). contra a.there (b.first i l)) (λ (l : j < i). contra b.there (a.first j l))) (cases_order i j)

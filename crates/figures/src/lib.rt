@@ -1,153 +1,144 @@
 // Figures (document 01, section 3), on a table of exactly the cells needed: a pass over all nodes, level by level.
 #![tactic(auto)]
 
-ghost use Rattle.std.specs.Prelude.{◌≡◌, ◌*◌, ◌+◌, ◌-◌, ◌<◌, ◌≤◌, ◌^◌, length};
-ghost use Rattle.meaning.specs.Blocks.{m_most, size_count, slots, small};
+ghost use Rattle.std.specs.Prelude.{◌≡◌, ◌*◌, ◌+◌, ◌-◌, ◌<◌, ◌≤◌, ◌^◌};
+ghost use Rattle.meaning.specs.Blocks.{slots, small};
 ghost use Rattle.meaning.specs.Bytes.{total};
 ghost use Rattle.cells.specs.Cell.{open_count};
 ghost use Rattle.trees.specs.Sums.{room_bytes};
 ghost use Rattle.table.specs.Table.{need};
 ghost use Rattle.table.specs.Sums.{levels_sum, node_held, node_live};
+ghost use Rattle.terms.specs.Answers.{tells_figures};
+ghost use Rattle.walks.specs.Books.{IsKept, cells_of, spent_of};
 ghost use Rattle.figures.specs.Summed.{Summed};
 
-use cells::{WHOLE_TAG, count_open, get, room_of, tag_of};
-use terms::{PAGE_BYTES, Reply, SIZE_COUNT, grant, page_count, run_bytes, slot_count, small_size};
+use cells::{Tag, count_open, room_of, tag_of};
+use std::ops::AddAssign;
+use terms::{Arena, Figures, PAGE_BYTES, Size, run_bytes};
+use walks::{Shown, map_of};
 
 // Bytes live, and pages held.
-#[derive(Clone, Copy)]
-pub struct Sums {
-    pub live: u64,
-    pub held: u64,
+#[derive(Clone, Copy, Default)]
+struct Sums {
+    live: u64,
+    held: u64,
 }
 
-// The bytes of the live slots of a page that serves size number c. (A bitmap of an unsound table may have more digits than there are slots.)
-fn page_live(c: u64, bits: u64) -> u64
-    requires { c < size_count }
-    ensures { result ≡ small c * (slots c - open_count bits) }
-{
-    let all = slot_count(c);
-    let open = count_open(bits);
-    if all < open {
-        return 0;
+// Each number adds to its own, where both sums fit.
+impl AddAssign for Sums {
+    ghost can_add_assign = { λ sums more. (sums.live + more.live < 2 ^ 64) × (sums.held + more.held < 2 ^ 64) };
+
+    ghost add_assign_gives = { λ sums more all. (all.live ≡ sums.live + more.live) × (all.held ≡ sums.held + more.held) };
+
+    fn add_assign(&mut self, more: Sums) {
+        self.live += more.live;
+        self.held += more.held;
     }
-    small_size(c) * (all - open)
+}
+
+// The bytes of the live slots of a page that serves a size. (A bitmap of an unsound table may have more digits than there are slots.)
+#[tactic(auto, using(crate::proofs::Nodes::page_live_le))]
+fn page_live(size: Size, bits: u64) -> u64
+    ensures { result ≡ small size.number * (slots size.number - open_count bits) }
+{
+    size.bytes() * size.slots().saturating_sub(count_open(bits))
 }
 
 // What the node v of height h adds.
-fn node_sums(t: &[u64], m: u64, h: u64, v: usize, spent: &mut u64) -> Sums
-    requires m_in_range { m ≤ m_most }
-    requires h_in_range { h ≤ m }
-    requires whole_table { length t.now ≡ need m }
-    requires v_below { v < 2 * 2 ^ (m - h) }
-    requires few_spent { spent.old < 2 ^ 31 }
-    ensures live { result.live ≡ node_live t.now (2 ^ m) h v }
-    ensures held { result.held ≡ node_held t.now h v }
-    ensures cost { spent.new ≤ spent.old + 1 + (1 - h) }
+fn node_sums(book: &mut Shown<'_>, h: u64, v: usize) -> Sums
+    requires h_in_range { h ≤ book.old.arena.m }
+    requires v_below { v < 2 * 2 ^ (book.old.arena.m - h) }
+    requires few_spent { spent_of book.old < 2 ^ 31 }
+    ensures kept { IsKept book.old book.new }
+    ensures live { result.live ≡ node_live (cells_of book.old) (2 ^ book.old.arena.m) h v }
+    ensures held { result.held ≡ node_held (cells_of book.old) h v }
+    ensures cost { spent_of book.new ≤ spent_of book.old + 1 + (1 - h) }
 {
-    let cell = get(t, v, &mut *spent);
-    let tag = tag_of(cell);
-    if tag == WHOLE_TAG {
-        return Sums {
-            live: run_bytes(h),
-            held: run_bytes(h) / PAGE_BYTES,
-        };
-    }
-    if h != 0 {
-        return Sums { live: 0, held: 0 };
-    }
-    if tag == 0 {
-        return Sums { live: 0, held: 0 };
-    }
-    if SIZE_COUNT < tag {
-        return Sums { live: 0, held: 0 };
-    }
-    let bits = get(t, v + page_count(m), &mut *spent);
-    Sums {
-        live: page_live(tag - 1, bits),
-        held: 1,
+    match tag_of(book.get(v)) {
+        Some(Tag::Whole) => {
+            let live = run_bytes(h);
+            Sums {
+                live,
+                held: live / PAGE_BYTES,
+            }
+        }
+        Some(Tag::Page(size)) if h == 0 => {
+            let bits = book.get(map_of(book.arena, v));
+            Sums {
+                live: page_live(size, bits),
+                held: 1,
+            }
+        }
+        _ => Sums::default(),
     }
 }
 
-// What the nodes of height h add, of which the first is `first`.
-fn level_sums(t: &[u64], m: u64, h: u64, first: usize, spent: &mut u64) -> Sums
-    requires m_in_range { m ≤ m_most }
-    requires h_in_range { h ≤ m }
-    requires first_of_level { first ≡ 2 ^ (m - h) }
-    requires whole_table { length t.now ≡ need m }
-    requires few_spent { spent.old < 2 ^ 30 }
-    ensures live { result.live ≡ total (node_live t.now (2 ^ m) h) first first }
-    ensures held { result.held ≡ total (node_held t.now h) first first }
-    ensures cost { spent.new ≤ spent.old + 2 * first }
-    ensures cost_above { 0 < h → spent.new ≤ spent.old + first }
+// The first node of height h.
+fn first_of_level(arena: Arena, h: u64) -> usize
+    requires { h ≤ arena.m }
+    ensures { result ≡ 2 ^ (arena.m - h) }
 {
-    let mut v = first;
-    let mut live: u64 = 0;
-    let mut held: u64 = 0;
-    while v < 2 * first {
-        let node = node_sums(t, m, h, v, &mut *spent);
-        live = live + node.live;
-        held = held + node.held;
-        v = v + 1;
+    1 << (arena.m - h)
+}
+
+// What the nodes of height h add.
+#[tactic(auto, using(crate::proofs::Levels::level_start, crate::proofs::Levels::level_next))]
+fn level_sums(book: &mut Shown<'_>, h: u64) -> Sums
+    requires h_in_range { h ≤ book.old.arena.m }
+    requires few_spent { spent_of book.old < 2 ^ 30 }
+    ensures kept { IsKept book.old book.new }
+    ensures live { let first = 2 ^ (book.old.arena.m - h) in result.live ≡ total (node_live (cells_of book.old) (2 ^ book.old.arena.m) h) first first }
+    ensures held { let first = 2 ^ (book.old.arena.m - h) in result.held ≡ total (node_held (cells_of book.old) h) first first }
+    ensures cost { spent_of book.new ≤ spent_of book.old + 2 * 2 ^ (book.old.arena.m - h) }
+    ensures cost_above { 0 < h → spent_of book.new ≤ spent_of book.old + 2 ^ (book.old.arena.m - h) }
+{
+    let first = first_of_level(book.arena, h);
+    let mut sums = Sums::default();
+    for v in first..2 * first {
+        sums += node_sums(book, h, v);
     }
-    Sums {
-        live: live,
-        held: held,
-    }
+    sums
 }
 
 // What all nodes add.
-fn all_sums(t: &[u64], m: u64, spent: &mut u64) -> Sums
-    requires m_in_range { m ≤ m_most }
-    requires whole_table { length t.now ≡ need m }
-    requires few_spent { spent.old < 2 ^ 20 }
-    ensures live { result.live ≡ levels_sum (node_live t.now (2 ^ m)) m (m + 1) }
-    ensures held { result.held ≡ levels_sum (node_held t.now) m (m + 1) }
-    ensures few { result.held ≤ 2 ^ m * (m + 1) }
-    ensures cost { spent.new < spent.old + 3 * 2 ^ m }
+#[tactic(auto, using(table::proofs::LevelSums::levels_sum_none, crate::proofs::Levels::levels_next))]
+fn all_sums(book: &mut Shown<'_>) -> Sums
+    requires few_spent { spent_of book.old < 2 ^ 20 }
+    ensures kept { IsKept book.old book.new }
+    ensures live { result.live ≡ levels_sum (node_live (cells_of book.old) (2 ^ book.old.arena.m)) book.old.arena.m (book.old.arena.m + 1) }
+    ensures held { result.held ≡ levels_sum (node_held (cells_of book.old)) book.old.arena.m (book.old.arena.m + 1) }
+    ensures few { result.held ≤ 2 ^ book.old.arena.m * (book.old.arena.m + 1) }
+    ensures cost { spent_of book.new < spent_of book.old + 3 * 2 ^ book.old.arena.m }
 {
-    let mut first = page_count(m);
-    let mut h: u64 = 0;
-    let mut live: u64 = 0;
-    let mut held: u64 = 0;
-    while h <= m {
-        let level = level_sums(t, m, h, first, &mut *spent);
-        live = live + level.live;
-        held = held + level.held;
-        first = first / 2;
-        h = h + 1;
+    let mut sums = Sums::default();
+    for h in 0..=book.arena.m {
+        sums += level_sums(book, h);
     }
-    Sums {
-        live: live,
-        held: held,
-    }
+    sums
 }
 
 // The size of the largest block that the root's room says. (The room of an unsound table may be more than the arena has.)
-fn room_bytes(m: u64, room: u64) -> u64
-    requires { m ≤ m_most }
-    ensures { room ≤ m + 1 → result ≡ room_bytes room }
+#[tactic(auto, unfolding(trees::specs::Sums::room_bytes))]
+fn room_bytes(arena: Arena, room: u64) -> u64
+    ensures { room ≤ arena.m + 1 → result ≡ room_bytes room }
 {
-    if room == 0 {
-        return 0;
+    match room.checked_sub(1) {
+        Some(k) if k <= arena.m => run_bytes(k),
+        _ => 0,
     }
-    if m + 1 < room {
-        return 0;
-    }
-    run_bytes(room - 1)
 }
 
 // Bytes live, bytes held, and the room.
-pub fn sum_table(t: &[u64], m: u64, spent: &mut u64) -> Reply
-    requires m_in_range { m ≤ m_most }
-    requires whole_table { length t.now ≡ need m }
-    requires few_spent { spent.old < 2 ^ 20 }
-    ensures { Summed m (need m) t.now result spent.old spent.new }
+pub fn sum_table(book: &mut Shown<'_>) -> Figures
+    requires few_spent { spent_of book.old < 2 ^ 20 }
+    ensures kept { IsKept book.old book.new }
+    ensures summed { Summed book.old.arena.m (need book.old.arena.m) (cells_of book.old) (tells_figures result) (spent_of book.old) (spent_of book.new) }
 {
-    let sums = all_sums(t, m, &mut *spent);
-    let root = get(t, 1, &mut *spent);
-    grant(
-        sums.live,
-        PAGE_BYTES * sums.held,
-        room_bytes(m, room_of(root)),
-    )
+    let sums = all_sums(book);
+    let root = book.get(1);
+    Figures {
+        live: sums.live,
+        held: PAGE_BYTES * sums.held,
+        room: room_bytes(book.arena, room_of(root)),
+    }
 }

@@ -1,12 +1,6 @@
 -- Giving back where the way up from the leaf of byte o ends at a large block, h levels up at the node v: for `give_run`. Assumes nothing.
-use mathlib.Core.Path.{◌∙◌, ◌≡◌, ap, sym}
-use mathlib.Core.Logic.{◌≢◌}
-use mathlib.Core.Option.{some}
-use mathlib.Core.List.{List}
-use Prim.Native.Nat.{◌*◌, ◌+◌, ◌-◌, ◌/◌, ◌<◌, ◌^◌, ◌≤◌, suc, ℕ}
-use lib.ListN.{get_or}
-use lib.Pow.{pow_mono}
-use native.Mathlib.Omega.{arith}
+use Rattle.std.proofs.Common.{List, ◌*◌, ◌+◌, ◌-◌, ◌/◌, ◌<◌, ◌^◌, ◌∙◌, ◌≡◌, ◌≢◌, ◌≤◌, ap, arith, get_or, pow_mono, refl, suc, sym, ℕ}
+use Rattle.std.proofs.Math.Option.{some}
 use Rattle.cells.specs.Cell.{tag_in, whole_tag}
 use Rattle.meaning.specs.Answers.{done, holds, refused, starts_at}
 use Rattle.meaning.specs.Blocks.{Live, arena, large, page_bytes}
@@ -17,8 +11,6 @@ use Rattle.table.proofs.Located.{located_large, starts_elsewhere, starts_here_le
 use Rattle.table.proofs.Standing.{stands_allowed}
 use Rattle.table.specs.Table.{Stands}
 use Rattle.table.specs.Walks.{above, located}
-use Rattle.terms.specs.Reply.{as_answer}
-use Rattle.terms.specs.declared.Reply.{Reply}
 use Rattle.walks.specs.Posts.{NodePut}
 use Rattle.give_back.proofs.Gives.{gave_done, gave_refused}
 use Rattle.give_back.specs.Gave.{Gave}
@@ -39,14 +31,14 @@ module _ (m o leaf h v first : ℕ) (t : List ℕ) (inside : o < arena m) (place
     run_held x = located_large x o h v inside (found ∙ ap (λ (y : ℕ). located (suc m) t y 0) place) (node ∙ ap (above h) place) low (rw node tag)
 
     -- it starts elsewhere
-    pub run_refused : (t' : List ℕ) (r : Reply) (s s' : ℕ) → o ≢ first → t' ≡ t → s' ≡ s → as_answer r ≡ refused 4 → Gave m (2 * (m - h) + 1) o t t' r s s'
-    run_refused t' r s s' n same spent a =
-        gave_refused m (2 * (m - h) + 1) o t t' r s s' (omega arith) same a (λ L x. starts_elsewhere o (stands_allowed x) (run_held x) (λ e. n (sym e ∙ sym starts)))
+    pub run_refused : (s : ℕ) → o ≢ first → Gave m (2 * (m - h) + 1) o t t (refused 4) s s
+    run_refused s n =
+        gave_refused m (2 * (m - h) + 1) o t t s s (omega arith) refl (λ L x. starts_elsewhere o (stands_allowed x) (run_held x) (λ e. n (sym e ∙ sym starts)))
 
     -- it starts there: its node is that of free pages from now on
-    pub run_done : (cell : ℕ) (t' : List ℕ) (r : Reply) (s s' : ℕ) → o ≡ first → cell ≡ h + 1 → NodePut m v h cell t t' s s' → as_answer r ≡ done → Gave m (2 * (m - h) + 1) o t t' r s s'
-    run_done cell t' r s s' here vacant put a =
-        gave_done m (2 * (m - h) + 1) o t t' r s s' (omega (arith, put.cost)) put.long a (λ L x. (
+    pub run_done : (cell : ℕ) (t' : List ℕ) (s s' : ℕ) → o ≡ first → cell ≡ h + 1 → NodePut m v h cell t t' s s' → Gave m (2 * (m - h) + 1) o t t' done s s'
+    run_done cell t' s s' here vacant put =
+        gave_done m (2 * (m - h) + 1) o t t' s s' (omega (arith, put.cost)) put.long (λ L x. (
           large h (v - 2 ^ (m - h)),
           there x,
           rw (put.exact, vacant, here ∙ starts) (run_given x h (v - 2 ^ (m - h)) v low number (rw (here ∙ starts) at (there x))),

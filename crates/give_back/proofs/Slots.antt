@@ -1,20 +1,10 @@
 -- Giving back where the leaf of byte o serves size number c: for `give_slot`. Assumes nothing.
-use mathlib.Core.Path.{◌∙◌, ◌≡◌, ap, refl, subst, sym}
-use mathlib.Core.Logic.{◌≢◌, ⊎_elim}
-use mathlib.Core.Bool.{cond, false, true}
-use mathlib.Core.Option.{none, some}
-use mathlib.Core.List.{List}
-use Prim.Native.Nat.{◌%◌, ◌*◌, ◌+◌, ◌/◌, ◌<◌, ◌^◌, ◌≤◌, suc, ℕ}
-use borrow.Author.Tests.{eqb-false, eqb-true, ne_eqb}
-use lib.Dec.{eqb}
-use lib.ListN.{get_or, set}
-use lib.Pow.{pow_pos}
-use native.Mathlib.Nat.{div-add-mod'}
-use native.Mathlib.Omega.{arith}
+use Rattle.std.proofs.Common.{List, ◌%◌, ◌*◌, ◌+◌, ◌/◌, ◌<◌, ◌^◌, ◌∙◌, ◌≡◌, ◌≢◌, ◌≤◌, ap, arith, cond, div-add-mod', eqb, eqb-true, false, get_or, ne_eqb, pow_pos, refl, set, subst, suc, sym, true, ℕ, ⊎_elim}
+use Rattle.std.proofs.Math.Option.{none, some}
+use Rattle.std.proofs.lemmas.Bool.{eqb-false}
 use Rattle.cells.specs.Cell.{packed, tag_in}
 use Rattle.digits.specs.Digits.{bit_at, ones}
 use Rattle.laws.proofs.Logic.{le_or_lt, split}
-use Rattle.laws.proofs.Sizes.{slots_most}
 use Rattle.meaning.specs.Answers.{done, refused, remove, starts_at}
 use Rattle.meaning.specs.Blocks.{Live, arena, page_bytes, size_count, slot, slots, small}
 use Rattle.meaning.specs.Search.{find}
@@ -24,8 +14,6 @@ use Rattle.table.proofs.Sights.{slot_of}
 use Rattle.table.proofs.Standing.{stands_allowed}
 use Rattle.table.specs.Table.{Stands}
 use Rattle.table.specs.Walks.{climbed, located}
-use Rattle.terms.specs.Reply.{as_answer}
-use Rattle.terms.specs.declared.Reply.{Reply}
 use Rattle.walks.specs.Posts.{LeafPut}
 use Rattle.give_back.proofs.Gives.{gave_done, gave_refused}
 use Rattle.give_back.specs.Gave.{Gave}
@@ -33,10 +21,6 @@ use Rattle.give_back.specs.Gave.{Gave}
 -- byte o lies its rest past the start of its slot
 slot_start : (c o : ℕ) → o ≡ (slot c (o / page_bytes) (slot_of c o)).start + o % page_bytes % small c
 slot_start c o = omega (arith, div-add-mod' (o % page_bytes) (small c))
-
--- a slot's number is a digit of a bitmap
-pub slot_low : (c n i : ℕ) → n ≡ slots c → i < n → i < 64
-slot_low c n i e l = omega (arith, slots_most c)
 
 module _ (m o leaf c : ℕ) (t : List ℕ) (inside : o < arena m) (place : leaf ≡ 2 ^ m + o / page_bytes) (c< : c < size_count)
     (found : 0 ≡ located (suc m) t leaf 0) (tag : tag_in (get_or t leaf 0) ≡ c + 1)
@@ -46,9 +30,8 @@ module _ (m o leaf c : ℕ) (t : List ℕ) (inside : o < arena m) (place : leaf 
     page x = located_small x o 0 leaf inside (found ∙ ap (λ (y : ℕ). located (suc m) t y 0) place) place c (omega arith) tag (omega arith)
 
     -- the byte is not the first of its slot
-    pub slot_within_refused : (size : ℕ) (t' : List ℕ) (r : Reply) (s s' : ℕ) → size ≡ small c → o % page_bytes % size ≢ 0
-        → t' ≡ t → s' ≡ s → as_answer r ≡ refused 4 → Gave m (2 * m + 3) o t t' r s s'
-    slot_within_refused size t' r s s' e n same spent a = gave_refused m (2 * m + 3) o t t' r s s' (omega arith) same a none_starts
+    pub slot_within_refused : (size s : ℕ) → size ≡ small c → o % page_bytes % size ≢ 0 → Gave m (2 * m + 3) o t t (refused 4) s s
+    slot_within_refused size s e n = gave_refused m (2 * m + 3) o t t s s (omega arith) refl none_starts
       where
         rest : o % page_bytes % small c ≢ 0
         rest = rw e at n
@@ -68,24 +51,23 @@ module _ (m o leaf c : ℕ) (t : List ℕ) (inside : o < arena m) (place : leaf 
       numbered = rw same_size at number
 
       -- the byte is past the page's last slot
-      pub slot_past_refused : (n : ℕ) (t' : List ℕ) (r : Reply) (s s' : ℕ) → n ≡ slots c → n ≤ i → t' ≡ t → s' ≡ s → as_answer r ≡ refused 4 → Gave m (2 * m + 3) o t t' r s s'
-      slot_past_refused n t' r s s' e l same spent a =
-          gave_refused m (2 * m + 3) o t t' r s s' (omega arith) same a (λ L x. starts_none o (stands_allowed x) ((page x).past (omega (arith, numbered))))
+      pub slot_past_refused : (n s : ℕ) → n ≡ slots c → n ≤ i → Gave m (2 * m + 3) o t t (refused 4) s s
+      slot_past_refused n s e l =
+          gave_refused m (2 * m + 3) o t t s s (omega arith) refl (λ L x. starts_none o (stands_allowed x) ((page x).past (omega (arith, numbered))))
 
       -- its slot is not live
-      pub slot_idle_refused : (w bits : ℕ) (t' : List ℕ) (r : Reply) (s s' : ℕ) → w ≡ leaf + 2 ^ m → bits ≡ get_or t w 0 → bit_at i bits ≡ true
-          → t' ≡ t → s' ≡ s + 1 → as_answer r ≡ refused 4 → Gave m (2 * m + 3) o t t' r s s'
-      slot_idle_refused w bits t' r s s' e f z same spent a =
-          gave_refused m (2 * m + 3) o t t' r s s' (omega arith) same a
-          (λ L x. starts_none o (stands_allowed x) ((page x).idle (rw (f, e, numbered) at z)))
+      pub slot_idle_refused : (w bits : ℕ) (t' : List ℕ) (s s' : ℕ) → w ≡ leaf + 2 ^ m → bits ≡ get_or t w 0 → bit_at i bits ≡ true
+          → t' ≡ t → s' ≡ s + 1 → Gave m (2 * m + 3) o t t' (refused 4) s s'
+      slot_idle_refused w bits t' s s' e f z same spent =
+          gave_refused m (2 * m + 3) o t t' s s' (omega arith) same (λ L x. starts_none o (stands_allowed x) ((page x).idle (rw (f, e, numbered) at z)))
 
       -- its slot is live and starts there
-      pub slot_done : (n w bits more cell left : ℕ) (t' : List ℕ) (r : Reply) (s s₁ s' : ℕ)
+      pub slot_done : (n w bits more cell left : ℕ) (t' : List ℕ) (s s₁ s' : ℕ)
           → o % page_bytes % size ≡ 0 → n ≡ slots c → i < n → w ≡ leaf + 2 ^ m → bits ≡ get_or t w 0 → s₁ ≡ s + 1 → bit_at i bits ≡ false → more ≡ bits + 2 ^ i
           → cell ≡ cond (eqb more (ones (slots c))) 1 (packed 0 (c + 1) (cond (eqb more 0) 0 (2 ^ c))) → left ≡ cond (eqb more (ones (slots c))) 0 more
-          → LeafPut m leaf cell left t t' s₁ s' → as_answer r ≡ done → Gave m (2 * m + 3) o t t' r s s'
-      slot_done n w bits more cell left t' r s s₁ s' rest en l ew eb one z em ec el put a =
-          gave_done m (2 * m + 3) o t t' r s s' (omega (arith, put.cost)) put.long a (λ L x. (slot c (o / page_bytes) (slot_of c o), there x, stands x))
+          → LeafPut m leaf cell left t t' s₁ s' → Gave m (2 * m + 3) o t t' done s s'
+      slot_done n w bits more cell left t' s s₁ s' rest en l ew eb one z em ec el put =
+          gave_done m (2 * m + 3) o t t' s s' (omega (arith, put.cost)) put.long (λ L x. (slot c (o / page_bytes) (slot_of c o), there x, stands x))
         where
           first : (slot c (o / page_bytes) (slot_of c o)).start ≡ o
           first = let q : o % page_bytes % small c ≡ 0 = rw same_size at rest in omega (arith, slot_start c o)

@@ -1,12 +1,6 @@
 -- Every block is aligned as the last column of section 2 says. Assumes nothing.
-use mathlib.Core.Path.{◌≡◌, refl, subst}
-use mathlib.Core.Bool.{◌&&◌, true}
-use Prim.Native.Nat.{◌%◌, ◌*◌, ◌+◌, ◌/◌, ◌<◌, ◌^◌, ◌≤◌, suc, zero, ℕ}
-use borrow.Author.Tests.{eqb-true}
-use lib.Dec.{eqb}
-use lib.Pow.{pow-add}
-use native.Mathlib.Nat.{dvd-add, dvd-mul_left, dvd-mul_left_of_dvd, dvd-mul_right_of_dvd, dvd_of_mod-eq-zero, mod-eq-zero_of_dvd, mul-dvd-mul_left, pow-suc}
-use native.Mathlib.Omega.{arith}
+use Rattle.std.proofs.Common.{◌%◌, ◌&&◌, ◌*◌, ◌+◌, ◌<◌, ◌^◌, ◌≡◌, ◌≤◌, arith, eqb, eqb-true, pow-add, pow-suc, refl, subst, suc, true, zero, ℕ}
+use Rattle.std.proofs.Math.Nat.{dvd-add, dvd-mul_left, dvd-mul_left_of_dvd, dvd-mul_right_of_dvd, dvd_of_mod-eq-zero, mod-eq-zero_of_dvd, mul-dvd-mul_left}
 use Rattle.meaning.specs.Blocks.{Block, IsBlock, alignment, is_large, is_slot, page_bytes, slot, small, twos_up_to}
 use Rattle.meaning.specs.Search.{least, lowest}
 use Rattle.laws.proofs.Logic.{and_left, and_right}
@@ -29,10 +23,7 @@ twos_of_power : (n a : ℕ) → a ≤ n → twos_up_to n (2 ^ a) ≡ 2 ^ a
 unfolding twos_up_to
 twos_of_power zero a h = let z : 0 ≡ a = omega arith in subst (λ (x : ℕ). 1 ≡ 2 ^ x) z refl
 twos_of_power (suc n) zero h = refl
-twos_of_power (suc n) (suc a) h =
-    let even : 2 ^ suc a % 2 ≡ 0 = omega (arith, pow-suc 2 a) in
-    let half : 2 ^ suc a / 2 ≡ 2 ^ a = omega (arith, pow-suc 2 a) in
-    rw (even, half, twos_of_power n a (omega arith)) (omega (arith, pow-suc 2 a))
+twos_of_power (suc n) (suc a) h = grind (arith, twos_of_power n a (omega arith))
 
 -- a large block is aligned to its own size
 pub large_alignment : (k : ℕ) → alignment (page_bytes * 2 ^ k) ≡ page_bytes * 2 ^ k

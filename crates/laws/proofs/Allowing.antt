@@ -1,17 +1,10 @@
 -- What may be added to an allowed set of live blocks, and what may be taken away. Assumes nothing.
-use mathlib.Core.Path.{◌∙◌, ◌≡◌, refl, sym}
-use mathlib.Core.Logic.{◌⊎◌, inl, inr, ⊎_elim}
-use mathlib.Core.Bool.{Bool, ◌&&◌, ◌||◌, cond, false, true}
-use mathlib.Core.List.{[], ◌∷◌}
-use Prim.Native.Nat.{◌*◌, ◌+◌, ◌/◌, ◌<◌, ◌≤◌, ℕ}
-use borrow.Author.Tests.{eqb-true, leb-false, leb-true}
-use lib.Dec.{eqb, leb}
-use lib.Pow.{pow_pos}
-use native.Mathlib.Omega.{arith}
+use Rattle.std.proofs.Common.{Bool, [], ◌&&◌, ◌*◌, ◌+◌, ◌/◌, ◌<◌, ◌||◌, ◌∙◌, ◌∷◌, ◌≡◌, ◌≤◌, ◌⊎◌, arith, cond, eqb, false, inl, inr, leb, leb-false, leb-true, pow_pos, refl, sym, true, ℕ, ⊎_elim}
+use Rattle.std.proofs.lemmas.Bool.{or_cases}
 use Rattle.meaning.specs.Answers.{clear, insert, remove, serves, starts_at}
 use Rattle.meaning.specs.Blocks.{Allowed, Before, BeforeAll, Block, IsBlock, Live, allowed_none, allowed_some, before_none, before_some, ends, is_large, is_slot, page_bytes, pages, slot, slots, small}
 use Rattle.meaning.specs.Search.{any, every}
-use Rattle.laws.proofs.Logic.{and_left, and_right, contra, or_true, split}
+use Rattle.laws.proofs.Logic.{and_right, contra, split}
 use Rattle.laws.proofs.Sizes.{slot_in, small_pos}
 
 -- ---- giving back keeps what is allowed
@@ -81,7 +74,7 @@ allowed_inserted {m} {b} i (allowed_some {b = x} {L = L} j p a) (beside_some s t
 
 pub apart_of : (b x : Block) (L : Live) → clear (x ∷ L) b ≡ true → (ends x ≤ b.start) ⊎ (ends b ≤ x.start)
 unfolding clear every
-apart_of b x L e = ⊎_elim (λ t. inl (leb-true (ends x) b.start t)) (λ t. inr (leb-true (ends b) x.start t)) (or_true (leb (ends x) b.start) (leb (ends b) x.start) (and_left (leb (ends x) b.start || leb (ends b) x.start) (clear L b) e))
+apart_of b x L e = grind arith
 
 pub clear_rest : (b x : Block) (L : Live) → clear (x ∷ L) b ≡ true → clear L b ≡ true
 unfolding clear every
@@ -108,7 +101,7 @@ one_after p e before_none = one_none
 one_after p e (before_some h r) = one_some (λ z. sym (h.one_size (p ∙ sym z)) ∙ e) (one_after p e r)
 
 pub is_server : (s q : ℕ) (y : Block) → eqb y.size s && eqb (y.start / page_bytes) q ≡ true → (y.size ≡ s) × (y.start / page_bytes ≡ q)
-is_server s q y e = (eqb-true y.size s (and_left (eqb y.size s) (eqb (y.start / page_bytes) q) e), eqb-true (y.start / page_bytes) q (and_right (eqb y.size s) (eqb (y.start / page_bytes) q) e))
+is_server s q y e = grind arith
 
 pub one_before : {x : Block} {L : Live} (s q : ℕ) → BeforeAll x L → serves L s q ≡ true → x.start / page_bytes ≡ q → x.size ≡ s
 unfolding serves any
@@ -116,7 +109,7 @@ one_before s q before_none e p = contra e refl
 one_before {x} s q (before_some {b' = y} {L = L} h r) e p = ⊎_elim
     (λ (t : eqb y.size s && eqb (y.start / page_bytes) q ≡ true). let z = is_server s q y t in h.one_size (p ∙ sym z.1) ∙ z.0)
     (λ (t : serves L s q ≡ true). one_before s q r t p)
-    (or_true (eqb y.size s && eqb (y.start / page_bytes) q) (serves L s q) e)
+    (or_cases (eqb y.size s && eqb (y.start / page_bytes) q) (serves L s q) e)
 
 pub one_size_of : {m : ℕ} {L : Live} (s q : ℕ) → Allowed m L → serves L s q ≡ true → OneSize s q L
 unfolding serves any
@@ -124,7 +117,7 @@ one_size_of s q allowed_none e = contra e refl
 one_size_of s q (allowed_some {b = x} {L = L} i f a) e = ⊎_elim
     (λ (t : eqb x.size s && eqb (x.start / page_bytes) q ≡ true). let z = is_server s q x t in one_some (λ p. z.0) (one_after z.1 z.0 f))
     (λ (t : serves L s q ≡ true). one_some (λ p. one_before s q f t p) (one_size_of s q a t))
-    (or_true (eqb x.size s && eqb (x.start / page_bytes) q) (serves L s q) e)
+    (or_cases (eqb x.size s && eqb (x.start / page_bytes) q) (serves L s q) e)
 
 pub beside_slot : (c q i : ℕ) {L : Live} → i < slots c → OneSize (small c) q L → clear L (slot c q i) ≡ true → BesideAll (slot c q i) L
 beside_slot c q i h one_none e = beside_none

@@ -1,12 +1,7 @@
 -- What a reader may rely on of an allowed set of live blocks: its blocks are pairwise apart, inside the arena and aligned. Assumes nothing.
-use mathlib.Core.Path.{◌∙◌, ◌≡◌, ap, subst, sym}
-use mathlib.Core.Logic.{◌⊎◌, inl, inr}
-use mathlib.Core.List.Memᴰ
+use Rattle.std.proofs.Common.{◌%◌, ◌-◌, ◌^◌, ◌∙◌, ◌≡◌, ◌≤◌, ◌⊎◌, arith, inl, inr, mul-le-mul_right, pow-add, subst, sym, ℕ}
 use mathlib.Core.List.{Memᴰ}
-use Prim.Native.Nat.{◌%◌, ◌*◌, ◌-◌, ◌^◌, ◌≤◌, ℕ}
-use lib.Pow.{pow-add}
-use native.Mathlib.Nat.{mul-le-mul_right, suc-mul}
-use native.Mathlib.Omega.{arith}
+use mathlib.Core.List.Memᴰ
 use Rattle.meaning.specs.Blocks.{Allowed, BeforeAll, Block, IsBlock, Live, alignment, allowed_none, allowed_some, arena, before_none, before_some, ends, is_large, is_slot}
 use Rattle.laws.proofs.Aligned.{block_aligned}
 use Rattle.laws.proofs.Sizes.{slot_in}
@@ -17,9 +12,7 @@ Disjoint b x = (ends b ≤ x.start) ⊎ (ends x ≤ b.start)
 
 pub block_inside : {m : ℕ} {b : Block} → IsBlock m b → ends b ≤ arena m
 block_inside (is_slot c q i c< q< i<) = omega (arith, slot_in c i i<)
-block_inside {m} (is_large k j k≤ j<) =
-    let e : 2 ^ m ≡ 2 ^ (m - k) * 2 ^ k = ap (λ x. 2 ^ x) (omega arith) ∙ pow-add 2 (m - k) k in
-    omega (arith, mul-le-mul_right (2 ^ k) j<, suc-mul j (2 ^ k))
+block_inside {m} (is_large k j k≤ j<) = grind (arith, pow-add 2 (m - k) k, mul-le-mul_right (2 ^ k) j<)
 
 pub live_is_block : {m : ℕ} {L : Live} {b : Block} → Allowed m L → Memᴰ b L → IsBlock m b
 live_is_block allowed_none i = absurd (Memᴰ.not-nil i)

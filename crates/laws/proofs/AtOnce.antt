@@ -1,12 +1,6 @@
 -- What is refused at once is what the meaning refuses. Assumes nothing.
-use mathlib.Core.Path.{◌≡◌, refl}
-use mathlib.Core.Logic.{◌⊎◌, inl, inr}
-use mathlib.Core.Bool.{Bool, cond, false, true}
-use mathlib.Core.Option.{none, some}
-use Prim.Native.Nat.{◌<◌, ◌≤◌, ℕ}
-use borrow.Author.Tests.{eqb-true, leb-true, ltb-true}
-use lib.Dec.{eqb, leb, ltb}
-use native.Mathlib.Omega.{arith}
+use Rattle.std.proofs.Common.{Bool, ◌<◌, ◌≡◌, ◌≤◌, ◌⊎◌, arith, cond, eqb, eqb-true, false, inl, inr, leb, leb-true, ltb, ltb-true, refl, true, ℕ}
+use Rattle.std.proofs.Math.Option.{none}
 use Rattle.meaning.specs.Answers.{Request, answer, bad_argument, check_up, figures, give_back, holds, offset, or_refuse, place, refused, refused_at_once, reply, start, starts_at, take, which}
 use Rattle.meaning.specs.Blocks.{Allowed, Block, Live, allowed_none, allowed_some, arena, ends, m_most}
 use Rattle.meaning.specs.Search.{find}
@@ -17,11 +11,7 @@ use Rattle.laws.proofs.Logic.{and_right, split}
 found_below : {m : ℕ} {L : Live} (o : ℕ) (p : Block → Bool) → Allowed m L → ((b : Block) → b.start < ends b → p b ≡ true → o < ends b) → arena m ≤ o → find p L ≡ none
 unfolding find
 found_below o p allowed_none near l = refl
-found_below {m} o p (allowed_some {b = x} {L = L} i f a) near l = go (split (p x)) (found_below o p a near l)
-  where
-    go : (p x ≡ true) ⊎ (p x ≡ false) → find p L ≡ none → cond (p x) (some x) (find p L) ≡ none
-    go (inl t) ih = absurd (omega (arith, near x (block_size i) t, block_inside i))
-    go (inr t) ih = rw t ih
+found_below {m} o p (allowed_some {b = x} {L = L} i f a) near l = grind (arith, found_below o p a near l, block_size i, block_inside i)
 
 -- an offset beyond the arena is in no live block
 pub beyond_is_4 : {m : ℕ} {L : Live} (o : ℕ) → Allowed m L → arena m ≤ o → (answer m L (give_back o) ≡ refused 4) × (answer m L (which o) ≡ refused 4)

@@ -1,11 +1,6 @@
 -- Laws of counting the numbers that pass a test, and of sums over numbers. Nothing here is about memory. Assumes nothing.
-use mathlib.Core.Path.{◌∙◌, ◌≡◌, ap, ap₂, refl, sym}
-use mathlib.Core.Bool.{Bool, ◌&&◌, ◌||◌, cond, false, not, true}
-use Prim.Native.Nat.{◌*◌, ◌+◌, ◌-◌, ◌<◌, ◌≤◌, suc, zero, ℕ}
-use borrow.Author.Tests.{le-leb, le-ltb, lt-leb, lt-ltb}
-use lib.Dec.{leb, ltb}
-use native.Mathlib.Nat.{add_assoc, add-suc, add-zero, mul-add, mul-one, mul-suc, mul-zero, suc-add, zero-add}
-use native.Mathlib.Omega.{arith}
+use Rattle.std.proofs.Common.{Bool, ◌&&◌, ◌*◌, ◌+◌, ◌-◌, ◌<◌, ◌||◌, ◌∙◌, ◌≡◌, ◌≤◌, add_assoc, add-suc, add-zero, ap, arith, cond, false, le-leb, le-ltb, leb, lt-ltb, ltb, mul-zero, not, refl, suc, suc-add, sym, true, zero, zero-add, ℕ}
+use Rattle.std.proofs.lemmas.Bool.{lt-leb}
 use Rattle.meaning.specs.Bytes.{of_four, total}
 use Rattle.meaning.specs.Search.{count}
 use Rattle.laws.proofs.Logic.{and_false}
@@ -45,22 +40,13 @@ count_of_four p q r s lo (suc n) h = omega (arith, h lo (omega arith) (omega ari
 pub count_not : (p : ℕ → Bool) (lo n : ℕ) → count p lo n + count (λ j. not (p j)) lo n ≡ n
 unfolding count
 count_not p lo zero = refl
-count_not p lo (suc n) = go (p lo) (count_not p (suc lo) n)
-  where
-    go : (t : Bool) → count p (suc lo) n + count (λ j. not (p j)) (suc lo) n ≡ n → cond t 1 0 + count p (suc lo) n + (cond (not t) 1 0 + count (λ j. not (p j)) (suc lo) n) ≡ suc n
-    go true e = omega arith
-    go false e = omega arith
+count_not p lo (suc n) = grind (arith, count_not p (suc lo) n)
 
 -- two tests that no number passes both
 pub count_or : (p q : ℕ → Bool) (lo n : ℕ) → ((j : ℕ) → p j ≡ true → q j ≡ false) → count (λ j. p j || q j) lo n ≡ count p lo n + count q lo n
 unfolding count
 count_or p q lo zero h = refl
-count_or p q lo (suc n) h = go (p lo) refl (count_or p q (suc lo) n h)
-  where
-    go : (t : Bool) → p lo ≡ t → count (λ j. p j || q j) (suc lo) n ≡ count p (suc lo) n + count q (suc lo) n
-        → cond (t || q lo) 1 0 + count (λ j. p j || q j) (suc lo) n ≡ cond t 1 0 + count p (suc lo) n + (cond (q lo) 1 0 + count q (suc lo) n)
-    go true e ih = rw (h lo e) (omega arith)
-    go false e ih = omega arith
+count_or p q lo (suc n) h = grind (arith, count_or p q (suc lo) n h)
 
 -- the numbers from a on and below a + s
 pub count_between : (a s n : ℕ) → a + s ≤ n → count (λ j. leb a j && ltb j (a + s)) 0 n ≡ s
@@ -77,7 +63,7 @@ count_between a s n l =
 pub count_shift : (p f : ℕ → Bool) (lo i n : ℕ) → ((r : ℕ) → i ≤ r → r < i + n → p (lo + r) ≡ f r) → count p (lo + i) n ≡ count f i n
 unfolding count
 count_shift p f lo i zero h = refl
-count_shift p f lo i (suc n) h = ap₂ (λ (t : Bool) (x : ℕ). cond t 1 0 + x) (h i (omega arith) (omega arith)) (rw (add-suc lo i) at (count_shift p f lo (suc i) n (λ r a b. h r (omega arith) (omega arith))))
+count_shift p f lo i (suc n) h = grind (arith, count_shift p f lo (suc i) n (λ r a b. h r (omega arith) (omega arith)))
 
 -- ---- numbers in runs of w
 
@@ -85,9 +71,7 @@ count_shift p f lo i (suc n) h = ap₂ (λ (t : Bool) (x : ℕ). cond t 1 0 + x)
 pub count_runs : (p : ℕ → Bool) (w lo n : ℕ) → count p (w * lo) (w * n) ≡ total (λ q. count p (w * q) w) lo n
 unfolding count total
 count_runs p w lo zero = rw (mul-zero w) refl
-count_runs p w lo (suc n) =
-    let e : w * suc n ≡ w + w * n = omega (arith, mul-suc w n) in
-    rw e (count_parts p (w * lo) w (w * n) ∙ ap (λ x. count p (w * lo) w + x) (rw (mul-suc w lo) at (count_runs p w (suc lo) n)))
+count_runs p w lo (suc n) = grind (arith, count_parts p (w * lo) w (w * n), count_runs p w (suc lo) n)
 
 -- sums of equal numbers are equal
 pub total_cong : (f g : ℕ → ℕ) (lo n : ℕ) → ((j : ℕ) → lo ≤ j → j < lo + n → f j ≡ g j) → total f lo n ≡ total g lo n
@@ -99,11 +83,7 @@ total_cong f g lo (suc n) h = rw (h lo (omega arith) (omega arith), total_cong f
 pub total_times : (p : ℕ → Bool) (w lo n : ℕ) → total (λ q. cond (p q) w 0) lo n ≡ w * count p lo n
 unfolding total count
 total_times p w lo zero = sym (mul-zero w)
-total_times p w lo (suc n) = go (p lo) (total_times p w (suc lo) n)
-  where
-    go : (t : Bool) → total (λ q. cond (p q) w 0) (suc lo) n ≡ w * count p (suc lo) n → cond t w 0 + total (λ q. cond (p q) w 0) (suc lo) n ≡ w * (cond t 1 0 + count p (suc lo) n)
-    go true e = omega (arith, mul-add w 1 (count p (suc lo) n), mul-one w)
-    go false e = omega (arith, mul-add w 0 (count p (suc lo) n), mul-zero w)
+total_times p w lo (suc n) = grind (arith, total_times p w (suc lo) n)
 
 -- runs of which all numbers pass or none
 pub count_even : (p f : ℕ → Bool) (w n : ℕ) → ((q r : ℕ) → r < w → p (w * q + r) ≡ f q) → count p 0 (w * n) ≡ w * count f 0 n

@@ -1,14 +1,7 @@
 -- What changes: a granted take adds exactly its block, a granted give back removes exactly the block that starts there, once; a refusal changes nothing.
 -- Assumes nothing.
-use mathlib.Core.Path.{◌∙◌, ◌≡◌, ap, refl, subst, sym}
-use mathlib.Core.Logic.{◌⊎◌, inl, inr}
-use mathlib.Core.Bool.{Bool, ◌||◌, cond, false, true}
-use mathlib.Core.Option.{Option, none, some}
-use mathlib.Core.List.{[], ◌++◌, ◌∷◌}
-use Prim.Native.Nat.{◌*◌, ◌<◌, ◌^◌, ◌≤◌, suc, ℕ}
-use borrow.Author.Tests.{eqb-true, leb-true, ne_eqb}
-use lib.Dec.{eqb, leb, ltb}
-use native.Mathlib.Omega.{arith}
+use Rattle.std.proofs.Common.{Bool, [], ◌*◌, ◌++◌, ◌<◌, ◌^◌, ◌∙◌, ◌∷◌, ◌≡◌, ◌≤◌, ◌⊎◌, ap, arith, cond, eqb, eqb-true, false, inl, inr, leb, leb-true, ltb, refl, subst, suc, sym, true, ℕ}
+use Rattle.std.proofs.Math.Option.{Option, none, some}
 use Rattle.meaning.specs.Answers.{Answer, Request, after, answer, check_up, done, figures, give_back, insert, insert_some, k_for, offset, or_refuse, place, refused, remove, size_for, start, starts_at, take, which}
 use Rattle.meaning.specs.Blocks.{Allowed, BeforeAll, Block, IsBlock, Live, allowed_none, allowed_some, arena, before_none, before_some, ends, page_bytes, size_count, small}
 use Rattle.meaning.specs.Candidates.{Candidate, in_free_page, in_run, in_served}
@@ -39,7 +32,7 @@ insert_adds b (x ∷ L) = go (leb b.start x.start) (insert_adds b L)
 remove_later : {m : ℕ} {b : Block} {L : Live} → b.start < ends b → BeforeAll b L → Allowed m L → remove b.start L ≡ L
 unfolding remove starts_at
 remove_later n before_none a = refl
-remove_later {b = b} n (before_some {b' = x} h r) (allowed_some i p a) = rw (ne_eqb x.start b.start (omega (arith, h.apart))) (ap (λ (y : Live). x ∷ y) (remove_later n r a))
+remove_later {b = b} n (before_some {b' = x} h r) (allowed_some i p a) = grind (arith, remove_later n r a)
 
 remove_takes : {m : ℕ} {b : Block} {L : Live} (o : ℕ) → Allowed m L → find (starts_at o) L ≡ some b → (b.start ≡ o) × Added b (remove o L) L
 unfolding find remove
@@ -111,11 +104,7 @@ give_back_removes {m} {L} o a e = go (find (starts_at o) L) refl
 find_removed : (o : ℕ) (L : Live) → find (starts_at o) (remove o L) ≡ none
 unfolding find remove
 find_removed o [] = refl
-find_removed o (x ∷ L) = go (split (starts_at o x)) (find_removed o L)
-  where
-    go : (starts_at o x ≡ true) ⊎ (starts_at o x ≡ false) → find (starts_at o) (remove o L) ≡ none → find (starts_at o) (cond (starts_at o x) (remove o L) (x ∷ remove o L)) ≡ none
-    go (inl t) ih = rw t ih
-    go (inr t) ih = rw (t, t) ih
+find_removed o (x ∷ L) = grind (arith, find_removed o L)
 
 -- a second give back at the same offset is refused with 4
 pub given_once : (m : ℕ) (L : Live) (o : ℕ) → answer m (after m L (give_back o)) (give_back o) ≡ refused 4
@@ -128,11 +117,7 @@ given_once m L o = rw (find_removed o L) refl
 pub remove_unfound : (o : ℕ) (L : Live) → find (starts_at o) L ≡ none → remove o L ≡ L
 unfolding find remove
 remove_unfound o [] e = refl
-remove_unfound o (x ∷ L) e = go (split (starts_at o x)) (remove_unfound o L)
-  where
-    go : (starts_at o x ≡ true) ⊎ (starts_at o x ≡ false) → (find (starts_at o) L ≡ none → remove o L ≡ L) → cond (starts_at o x) (remove o L) (x ∷ remove o L) ≡ x ∷ L
-    go (inl t) ih = no_some (sym (rw t at e))
-    go (inr t) ih = rw t (ap (λ (y : Live). x ∷ y) (ih (rw t at e)))
+remove_unfound o (x ∷ L) e = grind (arith, remove_unfound o L)
 
 -- a refusal changes nothing: the refusal number is not 0
 pub refusal_changes_nothing : (m : ℕ) (L : Live) (r : Request) → 0 < (answer m L r).refusal → after m L r ≡ L
@@ -146,10 +131,4 @@ refusal_changes_nothing m L (give_back o) e = go (find (starts_at o) L) refl e
     go : (x : Option Block) → find (starts_at o) L ≡ x → 0 < (or_refuse 4 (λ b. done) x).refusal → remove o L ≡ L
     go none f g = remove_unfound o L f
     go (some b) f g = absurd (omega arith)
-refusal_changes_nothing m L (take n) e = go (eqb n 0) (ltb (arena m) n) (place m L n) e
-  where
-    go : (s t : Bool) (x : Option Block) → 0 < (cond s (refused 1) (cond t (refused 2) (or_refuse 3 (λ b. offset b.start) x))).refusal → cond (s || t) L (insert_some x L) ≡ L
-    go true t x g = refl
-    go false true x g = refl
-    go false false none g = refl
-    go false false (some b) g = absurd (omega arith)
+refusal_changes_nothing m L (take n) e = grind arith

@@ -1,7 +1,5 @@
 -- No memory of the past, in the definitions: the answers depend on the live blocks and on nothing else. Assumes nothing.
-use mathlib.Core.Path.{◌≡◌, ap, refl}
-use mathlib.Core.List.{List, [], ◌++◌, ◌∷◌}
-use Prim.Native.Nat.{ℕ}
+use Rattle.std.proofs.Common.{List, [], ◌++◌, ◌∷◌, ◌≡◌, ap, refl, ℕ}
 use Rattle.meaning.specs.Answers.{Answer, Request, after, answer}
 use Rattle.meaning.specs.Blocks.{Allowed, Live}
 use Rattle.meaning.specs.Runs.{after_all, answers}

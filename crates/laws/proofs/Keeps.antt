@@ -1,12 +1,6 @@
 -- `after` keeps `Allowed`: what a take finds is a block of the arena that meets no live one. Assumes nothing.
-use mathlib.Core.Path.{◌≡◌, refl, subst}
-use mathlib.Core.Logic.{⊎_elim}
-use mathlib.Core.Bool.{Bool, ◌||◌, cond, false, true}
-use mathlib.Core.Option.{Option, none, some}
-use Prim.Native.Nat.{◌*◌, ◌-◌, ◌<◌, ◌^◌, ◌≤◌, suc, ℕ}
-use lib.Dec.{eqb, leb, ltb}
-use lib.Pow.{pow_pos}
-use native.Mathlib.Omega.{arith}
+use Rattle.std.proofs.Common.{Bool, ◌*◌, ◌-◌, ◌<◌, ◌^◌, ◌||◌, ◌≡◌, ◌≤◌, arith, cond, eqb, false, leb, ltb, pow_pos, refl, subst, suc, true, ℕ, ⊎_elim}
+use Rattle.std.proofs.Math.Option.{Option, none, some}
 use Rattle.meaning.specs.Answers.{Request, after, check_up, clear, figures, free, fresh_place, give_back, has_slot, insert_some, k_for, large_place, lowest_slot, place, served_place, serves, size_for, small_place, start, take, which}
 use Rattle.meaning.specs.Blocks.{Allowed, Block, IsBlock, Live, allowed_none, arena, is_large, is_slot, large, page_bytes, size_count, slot, slots, small, small_most}
 use Rattle.meaning.specs.Search.{bind, has, least}

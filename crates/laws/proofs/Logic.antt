@@ -1,57 +1,30 @@
 -- Small laws of tests, and of what a search found. Assumes nothing.
-use mathlib.Core.Path.{◌≡◌, refl, sym}
-use mathlib.Core.Logic.{◌⊎◌, inl, inr, ⊎_elim}
-use mathlib.Core.Bool.{Bool, ◌&&◌, ◌||◌, false, not, true}
-use mathlib.Core.Option.{Option, none, some}
-use Prim.Native.Nat.{◌<◌, ◌≤◌, ℕ}
-use borrow.Author.Tests.{leb-false, leb-true}
-use lib.Dec.{leb}
-use native.Mathlib.Omega.{arith}
+use Rattle.std.proofs.Common.{Bool, ◌&&◌, ◌<◌, ◌||◌, ◌∙◌, ◌≡◌, ◌≤◌, ◌⊎◌, ap, false, inl, inr, not, refl, sym, true, ℕ, ⊎_elim}
+use Rattle.std.proofs.Math.Bool.{not-not}
+use Rattle.std.proofs.Math.Option.{Option, none, none-ne-some, some}
+use Rattle.std.proofs.lemmas.Bool.{and_parts, both_ways, cases_lt}
 use Rattle.meaning.specs.Search.{bind, has, or_else}
-
+pub use Rattle.std.proofs.Math.Bool.{and-false as and_false, or-false as or_false}
 -- a test passes or fails, with the equation
-pub split : (b : Bool) → (b ≡ true) ⊎ (b ≡ false)
-split true = inl refl
-split false = inr refl
+pub use Rattle.std.proofs.lemmas.Bool.{cases_Bool as split}
 
 pub le_or_lt : (a b : ℕ) → (a ≤ b) ⊎ (b < a)
-le_or_lt a b = ⊎_elim (λ t. inl (leb-true a b t)) (λ t. inr (leb-false a b t)) (split (leb a b))
+le_or_lt a b = ⊎_elim inr inl (cases_lt b a)
 
 pub no_some {ℓ} : {A : Type ℓ} {B : Type 0} {a : A} → ◌≡◌ {A = Option A} none (some a) → B
-no_some e = absurd (let z : ◌≡◌ {A = ℕ} 0 1 = cc in omega arith)
+no_some e = absurd (none-ne-some _ e)
 
 pub contra : {B : Type 0} {b : Bool} → b ≡ true → b ≡ false → B
-contra t f = absurd (let z : ◌≡◌ {A = ℕ} 0 1 = cc in omega arith)
+contra {b = b} t f = absurd (both_ways b f t)
 
 pub and_left : (a b : Bool) → a && b ≡ true → a ≡ true
-and_left true b e = refl
-and_left false b e = e
+and_left a b e = (and_parts a b e).0
 
 pub and_right : (a b : Bool) → a && b ≡ true → b ≡ true
-and_right true b e = e
-and_right false b e = contra e refl
-
-pub and_true : (b : Bool) → b && true ≡ b
-and_true true = refl
-and_true false = refl
-
-pub and_false : (b : Bool) → b && false ≡ false
-and_false true = refl
-and_false false = refl
-
-pub or_false : (b : Bool) → b || false ≡ b
-or_false true = refl
-or_false false = refl
-
-pub or_true : (a b : Bool) → a || b ≡ true → (a ≡ true) ⊎ (b ≡ true)
-or_true true b e = inl refl
-or_true false b e = inr e
+and_right a b e = (and_parts a b e).1
 
 pub not_inj : (a b : Bool) → not a ≡ not b → a ≡ b
-not_inj true true e = refl
-not_inj true false e = sym e
-not_inj false true e = sym e
-not_inj false false e = refl
+not_inj a b e = sym (not-not a) ∙ (ap not e ∙ not-not b)
 
 module _ {A : Type 0} where
   pub bind_some : (o : Option ℕ) (f : ℕ → Option A) {a : A} → bind o f ≡ some a → (k : ℕ) × (o ≡ some k) × (f k ≡ some a)

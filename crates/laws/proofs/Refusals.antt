@@ -1,13 +1,7 @@
 -- Refusal 3 comes exactly when there is no candidate, and a take is given the candidate with the lowest offset. Assumes nothing.
-use mathlib.Core.Path.{◌∙◌, ◌≡◌, ap, refl, subst, sym}
-use mathlib.Core.Logic.{◌⊎◌, inl, inr, ⊎_elim}
-use mathlib.Core.Bool.{Bool, cond, false, true}
-use mathlib.Core.Option.{Option, none, some}
-use Prim.Native.Nat.{◌-◌, ◌<◌, ◌^◌, ◌≤◌, ℕ}
-use borrow.Author.Tests.{le-leb, le-ltb, leb-false, leb-true, lt-leb, ne_eqb}
-use lib.Dec.{eqb, leb, ltb}
-use native.Mathlib.Nat.{eq-or-lt_of_le, mul-le-mul_right}
-use native.Mathlib.Omega.{arith}
+use Rattle.std.proofs.Common.{Bool, ◌-◌, ◌<◌, ◌^◌, ◌∙◌, ◌≡◌, ◌≤◌, ◌⊎◌, ap, arith, cond, eq-or-lt_of_le, eqb, false, inl, inr, le-leb, le-ltb, leb, leb-false, leb-true, ltb, mul-le-mul_right, ne_eqb, refl, subst, sym, true, ℕ, ⊎_elim}
+use Rattle.std.proofs.Math.Option.{Option, none, some}
+use Rattle.std.proofs.lemmas.Bool.{lt-leb}
 use Rattle.meaning.specs.Answers.{Answer, answer, clear, free, fresh_place, has_slot, k_for, large_place, lowest_slot, offset, or_refuse, place, refused, served_place, serves, size_for, small_place, take}
 use Rattle.meaning.specs.Blocks.{Block, Live, arena, large, slot, slots, small, small_most}
 use Rattle.meaning.specs.Candidates.{Candidate, Served, in_free_page, in_run, in_served}

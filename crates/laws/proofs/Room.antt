@@ -1,11 +1,6 @@
 -- Room is what section 3 says: the largest block of free pages that could be had, and 0 when there is none. Assumes nothing.
-use mathlib.Core.Path.{◌≡◌, refl, subst, sym}
-use mathlib.Core.Logic.{⊎_elim}
-use mathlib.Core.Bool.{cond}
-use mathlib.Core.Option.{Option, none, some}
-use Prim.Native.Nat.{◌*◌, ◌<◌, ◌^◌, ◌≤◌, suc, zero, ℕ}
-use native.Mathlib.Nat.{eq-or-lt_of_le}
-use native.Mathlib.Omega.{arith}
+use Rattle.std.proofs.Common.{◌*◌, ◌<◌, ◌^◌, ◌≡◌, ◌≤◌, arith, cond, eq-or-lt_of_le, refl, subst, suc, sym, zero, ℕ, ⊎_elim}
+use Rattle.std.proofs.Math.Option.{Option, none, some}
 use Rattle.meaning.specs.Answers.{answer, figures, large_place, room_up_to}
 use Rattle.meaning.specs.Blocks.{Block, Live, page_bytes}
 use Rattle.meaning.specs.Search.{has}

@@ -1,13 +1,9 @@
 -- What a search finds: the first number that passes, and none only where none does. Assumes nothing.
-use mathlib.Core.Path.{◌≡◌, refl, sym}
-use mathlib.Core.Logic.{◌⊎◌, inl, inr, ⊎_elim}
-use mathlib.Core.Bool.{Bool, cond, false, true}
-use mathlib.Core.Option.{Option, none, some}
-use Prim.Native.Nat.{◌+◌, ◌<◌, ◌≤◌, suc, zero, ℕ}
-use native.Mathlib.Nat.{add-suc, add-zero, eq-or-lt_of_le, suc-add, zero-add}
-use native.Mathlib.Omega.{arith}
+use Rattle.std.proofs.Common.{Bool, ◌+◌, ◌<◌, ◌≡◌, ◌≤◌, add-suc, add-zero, arith, cond, false, refl, suc, suc-add, true, zero, zero-add, ℕ, ⊎_elim}
+use Rattle.std.proofs.Math.Option.{Option, none, some}
+use Rattle.std.proofs.lemmas.Bool.{cases_order}
 use Rattle.meaning.specs.Search.{lowest, or_else}
-use Rattle.laws.proofs.Logic.{contra, le_or_lt, no_some, split}
+use Rattle.laws.proofs.Logic.{contra, no_some}
 
 pub record Found (p : ℕ → Bool) (lo n k : ℕ) : Type 0 where
   pub from : lo ≤ k
@@ -18,30 +14,12 @@ pub record Found (p : ℕ → Bool) (lo n k : ℕ) : Type 0 where
 pub lowest_found : (p : ℕ → Bool) (lo n k : ℕ) → lowest p lo n ≡ some k → Found p lo n k
 unfolding lowest
 lowest_found p lo zero k e = no_some e
-lowest_found p lo (suc n) k e = go (split (p lo)) (lowest_found p (suc lo) n k)
-  where
-    go : (p lo ≡ true) ⊎ (p lo ≡ false) → (lowest p (suc lo) n ≡ some k → Found p (suc lo) n k) → Found p lo (suc n) k
-    go (inl t) ih =
-        let e'' : some lo ≡ some k = rw t at e in
-        let e' : lo ≡ k = cc in
-        record { from = omega arith; below = omega arith; passes = rw (← e') t; first = λ j a b. absurd (omega arith) }
-    go (inr t) ih =
-        let f = ih (rw t at e) in
-        record {
-          from = omega arith;
-          below = omega arith;
-          passes = f.passes;
-          first = λ j a b. ⊎_elim (λ (q : lo ≡ j). rw (← q) t) (λ (q : lo < j). f.first j q b) (eq-or-lt_of_le a);
-        }
+lowest_found p lo (suc n) k e = grind (arith, lowest_found p (suc lo) n k)
 
 pub lowest_none : (p : ℕ → Bool) (lo n : ℕ) → lowest p lo n ≡ none → (j : ℕ) → lo ≤ j → j < lo + n → p j ≡ false
 unfolding lowest
 lowest_none p lo zero e j a b = absurd (omega arith)
-lowest_none p lo (suc n) e j a b = go (split (p lo)) (lowest_none p (suc lo) n)
-  where
-    go : (p lo ≡ true) ⊎ (p lo ≡ false) → (lowest p (suc lo) n ≡ none → (j : ℕ) → suc lo ≤ j → j < suc lo + n → p j ≡ false) → p j ≡ false
-    go (inl t) ih = no_some (sym (rw t at e))
-    go (inr t) ih = ⊎_elim (λ (q : lo ≡ j). rw (← q) t) (λ (q : lo < j). ih (rw t at e) j q (omega arith)) (eq-or-lt_of_le a)
+lowest_none p lo (suc n) e j a b = grind (arith, lowest_none p (suc lo) n)
 
 -- what is found or not decides the search
 pub lowest_is : (p : ℕ → Bool) (lo n k : ℕ) → Found p lo n k → lowest p lo n ≡ some k
@@ -52,9 +30,9 @@ lowest_is p lo n k f = go (lowest p lo n) refl
     go (some j) e =
         let g = lowest_found p lo n j e in
         ⊎_elim
-        (λ (l : j ≤ k). ⊎_elim (λ (q : j ≡ k). rw (← q) e) (λ (q : j < k). contra g.passes (f.first j g.from q)) (eq-or-lt_of_le l))
-        (λ (l : k < j). contra f.passes (g.first k f.from l))
-        (le_or_lt j k)
+        (λ (q : j ≡ k). rw (← q) e)
+        (⊎_elim (λ (l : j < k). contra g.passes (f.first j g.from l)) (λ (l : k < j). contra f.passes (g.first k f.from l)))
+        (cases_order j k)
 
 pub lowest_isnt : (p : ℕ → Bool) (lo n : ℕ) → ((j : ℕ) → lo ≤ j → j < lo + n → p j ≡ false) → lowest p lo n ≡ none
 unfolding lowest

@@ -1,13 +1,7 @@
 -- The ten sizes: section 2's table, and the rules that each size keeps, each proved by one test of the whole table. Assumes nothing.
-use mathlib.Core.Path.{◌≡◌, refl}
-use mathlib.Core.Logic.{⊎_elim}
-use mathlib.Core.Bool.{Bool, not, true}
-use mathlib.Core.Option.{none}
-use Prim.Native.Nat.{◌*◌, ◌+◌, ◌-◌, ◌/◌, ◌<◌, ◌≤◌, suc, zero, ℕ}
-use borrow.Author.Tests.{leb-true, ltb-true, not-false}
-use lib.Dec.{leb, ltb}
-use native.Mathlib.Nat.{div-mul-le_self, eq-or-lt_of_le, le-div_iff_mul-le, le_of_suc-le-suc, mul-le-mul_right, suc-mul}
-use native.Mathlib.Omega.{arith}
+use Rattle.std.proofs.Common.{Bool, ◌*◌, ◌+◌, ◌-◌, ◌/◌, ◌<◌, ◌≡◌, ◌≤◌, arith, div-mul-le_self, eq-or-lt_of_le, le-div_iff_mul-le, le_of_suc-le-suc, leb, leb-true, ltb, ltb-true, mul-le-mul_right, not, refl, suc, suc-mul, true, zero, ℕ, ⊎_elim}
+use Rattle.std.proofs.Math.Option.{none}
+use Rattle.std.proofs.lemmas.Bool.{cases_order, not-false}
 use Rattle.meaning.specs.Blocks.{page_bytes, size_count, slots, small, small_most}
 use Rattle.meaning.specs.Search.{least, lowest}
 use Rattle.laws.proofs.Logic.{le_or_lt}
@@ -50,7 +44,7 @@ small_lt c zero h b = absurd (omega arith)
 small_lt c (suc d) h b = ⊎_elim (λ (e : c ≡ d). rw e (small_step d (omega arith))) (λ (l : c < d). omega (arith, small_lt c d l (omega arith), small_step d (omega arith))) (eq-or-lt_of_le (le_of_suc-le-suc h))
 
 pub small_inj : (c d : ℕ) → c < size_count → d < size_count → small c ≡ small d → c ≡ d
-small_inj c d a b e = ⊎_elim (λ (l : c ≤ d). ⊎_elim (λ (q : c ≡ d). q) (λ (q : c < d). absurd (omega (arith, small_lt c d q b))) (eq-or-lt_of_le l)) (λ (l : d < c). absurd (omega (arith, small_lt d c l a))) (le_or_lt c d)
+small_inj c d a b e = ⊎_elim (λ q. q) (⊎_elim (λ (l : c < d). absurd (omega (arith, small_lt c d l b))) (λ (l : d < c). absurd (omega (arith, small_lt d c l a)))) (cases_order c d)
 
 -- slot i ends in its page
 pub slot_in : (c i : ℕ) → i < slots c → i * small c + small c ≤ page_bytes

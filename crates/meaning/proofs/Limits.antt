@@ -1,9 +1,5 @@
 -- Document 01: both sides of each limit, and the order of the refusals. Assumes nothing.
-use mathlib.Core.Path.{◌≡◌, refl}
-use mathlib.Core.Bool.{Bool, ◌&&◌, false, true}
-use mathlib.Core.List.{[], ◌∷◌}
-use Prim.Native.Nat.{ℕ}
-use lib.Dec.{leb}
+use Rattle.std.proofs.Common.{Bool, [], ◌&&◌, ◌∷◌, ◌≡◌, false, leb, refl, true, ℕ}
 use Rattle.meaning.proofs.Played.{at, played}
 use Rattle.meaning.specs.Answers.{Request, answer, check_up, done, figures, found, give_back, next, offset, refused, reply, sound, start, take, three, which}
 use Rattle.meaning.specs.Blocks.{Live, m_most}

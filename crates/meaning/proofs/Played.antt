@@ -1,7 +1,6 @@
 -- Runs from no live block, as they compute: the one place that lists every definition to open. Assumes nothing.
-use mathlib.Core.List.{List, [], ◌∷◌}
-use Prim.Native.Nat.{suc, zero, ℕ}
-use Rattle.meaning.specs.Answers.{Answer, Request, after, answer, clear, figures, free, fresh_place, has_slot, held_bytes, holds, insert, insert_some, k_for, large_place, live_bytes, lowest_slot, or_refuse, place, remove, room_up_to, served_place, serves, size_for, small_place, start, starts_at, take}
+use Rattle.std.proofs.Common.{List, [], ◌∷◌, suc, zero, ℕ}
+use Rattle.meaning.specs.Answers.{Answer, Request, after, answer, clear, figures, free, fresh_place, has_slot, held_bytes, holds, insert, insert_some, k_for, large_place, live_bytes, lowest_slot, or_refuse, place, remove, room_up_to, served_place, serves, size_for, small_place, starts_at, take}
 use Rattle.meaning.specs.Blocks.{Block, Live, slots, small}
 use Rattle.meaning.specs.Runs.{after_all, answers}
 use Rattle.meaning.specs.Search.{any, bind, count, every, find, has, least, lowest, or_else}

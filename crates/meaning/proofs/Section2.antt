@@ -1,7 +1,5 @@
 -- Document 01, section 2: the table of the ten sizes. Assumes nothing.
-use mathlib.Core.Path.{◌≡◌, refl}
-use mathlib.Core.List.{[], ◌∷◌}
-use Prim.Native.Nat.{◌*◌, ◌-◌, ℕ}
+use Rattle.std.proofs.Common.{[], ◌*◌, ◌-◌, ◌∷◌, ◌≡◌, refl, ℕ}
 use Rattle.meaning.specs.Blocks.{alignment, page_bytes, slots, small, twos_up_to}
 
 -- a line of the table: size, slots in a page, bytes left over, alignment

@@ -1,6 +1,5 @@
 -- Document 01, section 6: the worked run of 21 requests, each with its answer and the figures after it. Assumes nothing.
-use mathlib.Core.Path.{◌≡◌, refl}
-use mathlib.Core.List.{[], ◌∷◌}
+use Rattle.std.proofs.Common.{[], ◌∷◌, ◌≡◌, refl}
 use Rattle.meaning.proofs.Played.{played, with_figures}
 use Rattle.meaning.specs.Answers.{done, give_back, offset, refused, take, three}
 

@@ -1,6 +1,5 @@
 -- Document 01, section 7: the runs that tell a wrong allocator from a right one. Assumes nothing.
-use mathlib.Core.Path.{◌≡◌, refl}
-use mathlib.Core.List.{List, [], ◌++◌, ◌∷◌}
+use Rattle.std.proofs.Common.{List, [], ◌++◌, ◌∷◌, ◌≡◌, refl}
 use Rattle.meaning.proofs.Played.{at, leaves, played, taken_of, times}
 use Rattle.meaning.specs.Answers.{Answer, Request, done, figures, found, give_back, offset, refused, take, three, which}
 

@@ -2,45 +2,41 @@
 #![tactic(auto)]
 
 ghost use Rattle.std.specs.Prelude.{◌≡◌, [], ◌*◌, ◌+◌, ◌-◌, ◌<◌, ◌≤◌, ◌^◌, length};
-ghost use Rattle.meaning.specs.Blocks.{m_most};
 ghost use Rattle.table.specs.Start.{Filled};
 ghost use Rattle.table.specs.Table.{Stands, need};
+ghost use Rattle.walks.specs.Books.{IsSameBook, cells_of, spent_of};
 
-use cells::{put, vacant_cell};
-use terms::page_count;
+use cells::vacant_cell;
+use std::ops::Range;
+use walks::Written;
 
-// The cells from one place up to another become x.
-fn fill(t: &mut [u64], from: usize, to: usize, x: u64, spent: &mut u64)
-    requires in_order { from ≤ to }
-    requires to_in_table { to ≤ length t.old }
-    requires few_spent { spent.old + (to - from) < 2 ^ 32 }
-    ensures filled { Filled t.old t.new from to x }
-    ensures counted { spent.new ≡ spent.old + (to - from) }
+// The cells of a run of places become x.
+fn fill(book: &mut Written<'_>, run: Range<usize>, x: u64)
+    requires in_order { run.start ≤ run.end }
+    requires run_in_table { run.end ≤ need book.old.arena.m }
+    requires few_spent { spent_of book.old + (run.end - run.start) < 2 ^ 32 }
+    ensures same_book { IsSameBook book.old book.new }
+    ensures filled { Filled (cells_of book.old) (cells_of book.new) run.start run.end x }
+    ensures counted { spent_of book.new ≡ spent_of book.old + (run.end - run.start) }
 {
-    let mut i = from;
-    while i < to {
-        put(t, i, x, &mut *spent);
-        i = i + 1;
+    for at in run {
+        book.put(at, x);
     }
 }
 
 // The table of an arena with no live block, whatever it held.
-pub fn start_table(t: &mut [u64], m: u64, spent: &mut u64)
-    requires m_in_range { m ≤ m_most }
-    requires whole_table { length t.old ≡ need m }
-    requires few_spent { spent.old < 2 ^ 20 }
-    ensures stands { Stands m [] t.new }
-    ensures long { length t.new ≡ length t.old }
-    ensures cost { spent.new ≤ spent.old + need m }
+pub fn start_table(book: &mut Written<'_>)
+    requires few_spent { spent_of book.old < 2 ^ 20 }
+    ensures same_book { IsSameBook book.old book.new }
+    ensures stands { Stands book.old.arena.m [] (cells_of book.new) }
+    ensures long { length (cells_of book.new) ≡ length (cells_of book.old) }
+    ensures cost { spent_of book.new ≤ spent_of book.old + need book.old.arena.m }
 {
-    let pages = page_count(m);
-    fill(t, 2 * pages, 3 * pages, 0, &mut *spent);
-    fill(t, 0, 1, 0, &mut *spent);
-    let mut first = pages;
-    let mut h: u64 = 0;
-    while h <= m {
-        fill(t, first, 2 * first, vacant_cell(h), &mut *spent);
-        first = first / 2;
-        h = h + 1;
+    let pages = book.arena.pages();
+    fill(book, 2 * pages..3 * pages, 0);
+    fill(book, 0..1, 0);
+    for h in 0..=book.arena.m {
+        let first = pages >> h;
+        fill(book, first..2 * first, vacant_cell(h));
     }
 }

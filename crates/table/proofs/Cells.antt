@@ -1,10 +1,6 @@
 -- What each cell of a table that holds a tree says. Assumes nothing.
-use mathlib.Core.Path.{◌∙◌, ◌≡◌, ap}
-use mathlib.Core.List.{List}
-use Prim.Native.Nat.{◌*◌, ◌+◌, ◌<◌, ◌≤◌, suc, zero, ℕ}
-use lib.ListN.{get_or}
-use native.Mathlib.Omega.{arith}
-use Rattle.cells.proofs.Cell.{joined_packed, mask_packed, room_packed, tag_packed}
+use Rattle.std.proofs.Common.{List, ◌*◌, ◌+◌, ◌<◌, ◌∙◌, ◌≡◌, ◌≤◌, ap, arith, get_or, suc, zero, ℕ}
+use Rattle.cells.proofs.Cell.{mask_packed, room_packed, tag_packed}
 use Rattle.cells.specs.Cell.{joined, mask_in, room_in, tag_in, tag_span}
 use Rattle.meaning.specs.Blocks.{pages}
 use Rattle.trees.specs.Tree.{Tree, WF, cut, empty, pair, wf_cut, wf_empty, wf_pair, wf_whole, whole}
@@ -18,11 +14,7 @@ room_le zero (pair l r) = omega arith
 room_le (suc h) (pair l r) = omega (arith, room_le h l, room_le h r)
 
 pub fit_tag : (h : ℕ) (T : Tree) → Fit h T → tag_of T < tag_span
-fit_tag h empty f = omega arith
-fit_tag h whole f = omega arith
-fit_tag zero (cut c b) f = omega (arith, f.0)
-fit_tag (suc h) (cut c b) f = absurd f
-fit_tag h (pair l r) f = omega arith
+fit_tag h T f = grind arith
 
 module _ (t : List ℕ) (pages v : ℕ) where
   pub enc_cell : (h : ℕ) (T : Tree) → Encodes t pages v h T → get_or t v 0 ≡ cell_of h T
@@ -51,9 +43,7 @@ enc_wf t pages v (suc h) (pair l r) e = wf_pair (enc_wf t pages (2 * v) h l e.2)
 
 -- the cell of a pair is the join of its halves' cells
 pub join_cell : (h : ℕ) (l r : Tree) → h < 62 → Fit h l → Fit h r → joined h (cell_of h l) (cell_of h r) ≡ cell_of (suc h) (pair l r)
-join_cell h l r b fl fr =
-    joined_packed h (room_of h l) (room_of h r) (tag_of l) (tag_of r) (mask_of l) (mask_of r)
-    (omega (arith, room_le h l)) (omega (arith, room_le h r)) (fit_tag h l fl) (fit_tag h r fr)
+join_cell h l r b fl fr = grind (arith, room_le h l, room_le h r)
 
 module _ (t : List ℕ) (pages h v : ℕ) (T : Tree) (low : h < 62) (e : Encodes t pages v h T) where
   pub cell_room : room_in (get_or t v 0) ≡ room_of h T

@@ -1,12 +1,6 @@
 -- What a take or a give back stores makes the table stand for the live blocks afterwards. Assumes nothing.
-use mathlib.Core.Path.{◌∙◌, ◌≡◌, subst, sym}
-use mathlib.Core.Bool.{true}
-use mathlib.Core.Option.{some}
-use mathlib.Core.List.{List}
-use Prim.Native.Nat.{◌*◌, ◌+◌, ◌-◌, ◌<◌, ◌^◌, ◌≤◌, ℕ}
-use lib.ListN.{length, set}
-use lib.Pow.{pow_pos}
-use native.Mathlib.Omega.{arith}
+use Rattle.std.proofs.Common.{List, ◌*◌, ◌+◌, ◌-◌, ◌<◌, ◌^◌, ◌∙◌, ◌≡◌, ◌≤◌, arith, length, pow_pos, set, subst, sym, true, ℕ}
+use Rattle.std.proofs.Math.Option.{some}
 use Rattle.laws.proofs.Searches.{lowest_found}
 use Rattle.meaning.specs.Answers.{clear, insert, remove, starts_at}
 use Rattle.meaning.specs.Blocks.{Live, large}

@@ -1,15 +1,6 @@
 -- What a take or a give back of a slot stores makes the table stand for the live blocks afterwards. Assumes nothing.
-use mathlib.Core.Path.{◌∙◌, ◌≡◌, ap, refl, subst}
-use mathlib.Core.Logic.{◌≢◌}
-use mathlib.Core.Bool.{cond, false, not, true}
-use mathlib.Core.Option.{some}
-use mathlib.Core.List.{List}
-use Prim.Native.Nat.{◌+◌, ◌-◌, ◌<◌, ◌^◌, ℕ}
-use borrow.Author.Tests.{ne_eqb}
-use lib.Dec.{eqb}
-use lib.ListN.{get_or, set}
-use lib.Pow.{pow_mono, pow_pos}
-use native.Mathlib.Omega.{arith}
+use Rattle.std.proofs.Common.{List, ◌+◌, ◌-◌, ◌<◌, ◌^◌, ◌∙◌, ◌≡◌, ◌≢◌, ap, arith, cond, eqb, false, get_or, ne_eqb, not, pow_mono, pow_pos, refl, set, subst, true, ℕ}
+use Rattle.std.proofs.Math.Option.{some}
 use Rattle.cells.specs.Cell.{packed}
 use Rattle.digits.proofs.Digits.{bit_complement, more_same, set_lt}
 use Rattle.digits.specs.Digits.{bit_at, ones}

@@ -1,15 +1,7 @@
 -- The way down: on any table whatever it stays below its node; on a table that holds a tree it finds the leftmost. Assumes nothing.
-use mathlib.Core.Path.{◌∙◌, ◌≡◌, ap, refl, sym}
-use mathlib.Core.Bool.{Bool, cond, false, true}
-use mathlib.Core.Option.{Option, none, some}
-use mathlib.Core.List.{List}
-use Prim.Native.Nat.{◌*◌, ◌+◌, ◌-◌, ◌<◌, ◌^◌, ◌≤◌, suc, zero, ℕ}
-use lib.Dec.{ltb}
-use lib.ListN.{get_or}
-use lib.Pow.{pow_mono}
-use native.Mathlib.Nat.{add-mul, mul_assoc, mul_comm, mul-le-mul_left, pow-suc, pow-succ'}
-use native.Mathlib.Numerals.{add-one}
-use native.Mathlib.Omega.{arith}
+use Rattle.std.proofs.Common.{Bool, List, ◌*◌, ◌+◌, ◌-◌, ◌<◌, ◌^◌, ◌∙◌, ◌≡◌, ◌≤◌, add-mul, add-one, ap, arith, cond, false, get_or, ltb, mul_assoc, mul_comm, mul-le-mul_left, pow_mono, pow-suc, refl, suc, sym, true, zero, ℕ}
+use Rattle.std.proofs.Math.Nat.{pow-succ'}
+use Rattle.std.proofs.Math.Option.{Option, none, some}
 use Rattle.cells.specs.Cell.{has_room_for, has_size}
 use Rattle.digits.specs.Digits.{bit_at}
 use Rattle.laws.proofs.Logic.{no_some}
@@ -17,7 +9,7 @@ use Rattle.meaning.specs.Blocks.{pages}
 use Rattle.meaning.specs.Search.{has, or_else}
 use Rattle.trees.proofs.Sums.{best_run}
 use Rattle.trees.specs.Leftmost.{first_page, first_run, has_room}
-use Rattle.trees.specs.Tree.{Tree, WF, cut, empty, is_empty, pair, wf_cut, wf_empty, wf_whole, whole}
+use Rattle.trees.specs.Tree.{Tree, WF, cut, empty, is_empty, pair, whole}
 use Rattle.table.proofs.Cells.{cell_mask, cell_room, enc_wf}
 use Rattle.table.proofs.Nodes.{over_add}
 use Rattle.table.proofs.Summaries.{mask_page, room_best}
@@ -56,9 +48,7 @@ descended_to f (suc n) t v = omega (arith, two_levels n (v + 1), mul-le-mul_left
 
 -- before the first turn of a loop over n levels
 pub descended_begin : (f : ℕ → Bool) (n v : ℕ) (t : List ℕ) → descended f (n - 0) t v ≡ descended f n t v
-descended_begin f n v t =
-    let q : n - 0 ≡ n = omega arith in
-    rw q refl
+descended_begin f n v t = grind arith
 
 -- one turn of a loop that has gone d of n levels, by what the test says
 descended_turn : (f : ℕ → Bool) (n d v : ℕ) (t : List ℕ) (x : Bool) → d < n → f (get_or t (2 * v) 0) ≡ x → descended f (n - (d + 1)) t (turned x v) ≡ descended f (n - d) t v
@@ -75,9 +65,7 @@ descended_right f n d v t l p = descended_turn f n d v t false l p
 
 -- after the last turn
 pub descended_end : (f : ℕ → Bool) (n d v w : ℕ) (t : List ℕ) → n ≤ d → descended f (n - d) t v ≡ w → v ≡ w
-descended_end f n d v w t l p =
-    let q : n - d ≡ 0 = omega arith in
-    rw q at p
+descended_end f n d v w t l p = grind arith
 
 -- the next power, and where it stands below the last
 pub twice : (d : ℕ) → 2 ^ (d + 1) ≡ 2 * 2 ^ d
@@ -159,9 +147,7 @@ descended_run t pages k = descended_finds t pages k (has_room_for k) first_run
 -- and so at a page
 page_end : (f : Tree → Bool) {i j : ℕ} {T : Tree} → WF 0 T → first_page f 0 i T ≡ some j → i ≡ j
 unfolding first_page
-page_end f {i} {j} wf_empty s = here_some (f empty) i j s
-page_end f {i} {j} (wf_cut {c = c} {bits = b} x y z) s = here_some (f (cut c b)) i j s
-page_end f wf_whole s = no_some s
+page_end f w e = grind arith
 
 -- going down by a size gets to the leftmost page that serves it and has a slot
 pub descended_page : (t : List ℕ) (pages c h v q p : ℕ) (T : Tree) → h < 62 → Encodes t pages v h T → first_page (has_room c) h q T ≡ some p → descended (has_size c) h t v + q ≡ v * 2 ^ h + p

@@ -1,12 +1,6 @@
 -- Take: what the root's cell and the way down say of the block that a take is given. Assumes nothing.
-use mathlib.Core.Path.{◌∙◌, ◌≡◌, ap, subst, sym}
-use mathlib.Core.Bool.{true}
-use mathlib.Core.Option.{some}
-use mathlib.Core.List.{List}
-use Prim.Native.Nat.{◌+◌, ◌-◌, ◌<◌, ◌^◌, ◌≤◌, ℕ}
-use lib.Dec.{ltb}
-use lib.ListN.{get_or}
-use native.Mathlib.Omega.{arith}
+use Rattle.std.proofs.Common.{List, ◌+◌, ◌-◌, ◌<◌, ◌^◌, ◌∙◌, ◌≡◌, ◌≤◌, ap, arith, get_or, ltb, subst, sym, true, ℕ}
+use Rattle.std.proofs.Math.Option.{some}
 use Rattle.cells.specs.Cell.{has_room_for, room_in}
 use Rattle.laws.proofs.Logic.{bind_some, has_bind}
 use Rattle.laws.proofs.Searches.{lowest_found}

@@ -1,12 +1,6 @@
 -- Take of a small block: what the root's cell and the way down say of the slot that a take is given. Assumes nothing.
-use mathlib.Core.Path.{◌∙◌, ◌≡◌, ap, refl, subst, sym}
-use mathlib.Core.Bool.{true}
-use mathlib.Core.Option.{Option, none, some}
-use mathlib.Core.List.{List}
-use Prim.Native.Nat.{◌+◌, ◌-◌, ◌<◌, ◌^◌, ℕ}
-use lib.Dec.{ltb}
-use lib.ListN.{get_or}
-use native.Mathlib.Omega.{arith}
+use Rattle.std.proofs.Common.{List, ◌+◌, ◌-◌, ◌<◌, ◌^◌, ◌∙◌, ◌≡◌, ap, arith, get_or, ltb, refl, subst, sym, true, ℕ}
+use Rattle.std.proofs.Math.Option.{Option, none, some}
 use Rattle.cells.specs.Cell.{has_room_for, has_size, room_in, tag_in}
 use Rattle.digits.specs.Digits.{First}
 use Rattle.laws.proofs.Logic.{and_left, bind_some, has_bind}

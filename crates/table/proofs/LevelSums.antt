@@ -1,9 +1,5 @@
 -- Sums over the nodes of a table: level by level is the same as node by node from the root down. Assumes nothing.
-use mathlib.Core.Path.{◌∙◌, ◌≡◌, ap, refl}
-use Prim.Native.Nat.{◌*◌, ◌+◌, ◌-◌, ◌<◌, ◌^◌, ◌≤◌, suc, zero, ℕ}
-use native.Mathlib.Nat.{add-zero, mul-suc, sub_self, zero-add}
-use native.Mathlib.Numerals.{add-one}
-use native.Mathlib.Omega.{arith}
+use Rattle.std.proofs.Common.{◌*◌, ◌+◌, ◌-◌, ◌<◌, ◌^◌, ◌∙◌, ◌≡◌, ◌≤◌, add-one, add-zero, arith, mul-suc, refl, suc, zero, zero-add, ℕ}
 use Rattle.meaning.specs.Bytes.{total}
 use Rattle.table.proofs.Parts.{next_level}
 use Rattle.table.specs.Sums.{levels_sum, tree_sum}
@@ -19,17 +15,11 @@ level_sum_none f v = refl
 pub level_sum_more : (f : ℕ → ℕ) (v n : ℕ) → total f v (n + 1) ≡ total f v n + f (v + n)
 unfolding total
 level_sum_more f v zero = rw (add-zero v) (omega arith)
-level_sum_more f v (suc n) =
-    let z : suc n + 1 ≡ suc (n + 1) = omega arith in
-    let y : suc v + n ≡ v + suc n = omega arith in
-    rw (z, level_sum_more f (suc v) n, y) (omega arith)
+level_sum_more f v (suc n) = grind (arith, level_sum_more f (suc v) n)
 
 -- one node more, by the node: the nodes from `first` up to v, and v
 pub level_sum_next : (f : ℕ → ℕ) (first v : ℕ) → first ≤ v → total f first (v + 1 - first) ≡ total f first (v - first) + f v
-level_sum_next f first v l =
-    let x : v + 1 - first ≡ v - first + 1 = omega arith in
-    let y : first + (v - first) ≡ v = omega arith in
-    rw x (level_sum_more f first (v - first) ∙ ap (λ (u : ℕ). total f first (v - first) + f u) y)
+level_sum_next f first v l = grind (arith, level_sum_more f first (v - first))
 
 -- a bound for each node bounds the sum
 pub level_sum_le : (f : ℕ → ℕ) (b v n : ℕ) → ((u : ℕ) → f u ≤ b) → total f v n ≤ b * n
@@ -80,6 +70,4 @@ levels_tree f m (suc h) l =
 -- the sum over all levels is that over the root and all below it
 pub all_levels : (f : ℕ → ℕ → ℕ) (m : ℕ) → levels_sum f m (m + 1) ≡ tree_sum f m 1
 unfolding total
-all_levels f m =
-    let z : 2 ^ (m - m) ≡ 1 = ap (λ (x : ℕ). 2 ^ x) (sub_self m) in
-    rw (add-one m, levels_tree f m m (omega arith), z) (omega arith)
+all_levels f m = grind (arith, levels_tree f m m (omega arith))

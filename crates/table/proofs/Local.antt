@@ -1,28 +1,13 @@
 -- Check-up's local tests: what it is to pass them. Assumes nothing.
-use mathlib.Core.Path.{◌∙◌, ◌≡◌, ap, refl, sym}
-use mathlib.Core.Logic.{⊎_elim}
-use mathlib.Core.Bool.{Bool, ◌&&◌, ◌||◌, cond, false, true}
-use Prim.Native.Nat.{◌+◌, ◌-◌, ◌<◌, ◌^◌, ◌≤◌, suc, ℕ}
-use borrow.Author.Tests.{eq-eqb, eqb-true, le-leb, leb-true, lt-ltb, ltb-true}
-use lib.Dec.{eqb, leb, ltb}
-use native.Mathlib.Omega.{arith}
-use Rattle.cells.proofs.Cell.{tag_packed}
-use Rattle.cells.specs.Cell.{joined, packed, tag_in}
+use Rattle.std.proofs.Common.{◌&&◌, ◌+◌, ◌-◌, ◌<◌, ◌^◌, ◌||◌, ◌∙◌, ◌≡◌, ◌≤◌, ap, arith, cond, eq-eqb, eqb, eqb-true, leb, leb-true, ltb, ltb-true, refl, sym, true, ℕ, ⊎_elim}
+use Rattle.std.proofs.lemmas.Bool.{or_cases}
+use Rattle.cells.specs.Cell.{packed, tag_in}
 use Rattle.digits.specs.Digits.{ones}
-use Rattle.laws.proofs.Logic.{and_left, and_right, or_true}
+use Rattle.laws.proofs.Logic.{and_left, and_right}
 use Rattle.meaning.specs.Blocks.{size_count, slots}
 use Rattle.trees.specs.Tree.{empty, whole}
-use Rattle.table.specs.Local.{LeafCell, NodeCell, cut_leaf, cut_sound, free_leaf, leaf_sound, node_sound, pair_node, whole_leaf, whole_node}
+use Rattle.table.specs.Local.{LeafCell, NodeCell, cut_leaf, cut_sound, free_leaf, leaf_sound, node_sound, whole_leaf}
 use Rattle.table.specs.Table.{cell_of}
-
--- two tests pass together
-both : {a b : Bool} → a ≡ true → b ≡ true → a && b ≡ true
-both {a} {b} p q = rw (p, q) refl
-
--- the second of two tests passes
-or_right : (a : Bool) {b : Bool} → b ≡ true → a || b ≡ true
-or_right true e = refl
-or_right false e = e
 
 -- a page that passes serves a size, and one slot of it is live at least
 cut_passes : (cell bits : ℕ) → cut_sound cell bits ≡ true → LeafCell cell bits
@@ -45,41 +30,28 @@ leaf_passes cell bits e = ⊎_elim
     (λ (p : eqb cell (cell_of 0 empty) && eqb bits 0 || eqb cell (cell_of 0 whole) && eqb bits 0 ≡ true). ⊎_elim
     (λ (q : eqb cell (cell_of 0 empty) && eqb bits 0 ≡ true). free_leaf (eqb-true cell _ (and_left _ (eqb bits 0) q)) (eqb-true bits 0 (and_right (eqb cell (cell_of 0 empty)) _ q)))
     (λ (q : eqb cell (cell_of 0 whole) && eqb bits 0 ≡ true). whole_leaf (eqb-true cell _ (and_left _ (eqb bits 0) q)) (eqb-true bits 0 (and_right (eqb cell (cell_of 0 whole)) _ q)))
-    (or_true (eqb cell (cell_of 0 empty) && eqb bits 0) _ p))
+    (or_cases (eqb cell (cell_of 0 empty) && eqb bits 0) _ p))
     (cut_passes cell bits)
-    (or_true (eqb cell (cell_of 0 empty) && eqb bits 0 || eqb cell (cell_of 0 whole) && eqb bits 0) (cut_sound cell bits) e)
+    (or_cases (eqb cell (cell_of 0 empty) && eqb bits 0 || eqb cell (cell_of 0 whole) && eqb bits 0) (cut_sound cell bits) e)
 
 -- and each such page passes
 cut_sound_lem : (cell bits c : ℕ) → c < size_count → bits < ones (slots c) → cell ≡ packed 0 (c + 1) (cond (eqb bits 0) 0 (2 ^ c)) → cut_sound cell bits ≡ true
 unfolding cut_sound
-cut_sound_lem cell bits c l b e =
-    let g : tag_in cell ≡ c + 1 = ap tag_in e ∙ tag_packed 0 (c + 1) (cond (eqb bits 0) 0 (2 ^ c)) (omega arith) (omega arith) in
-    let q : c + 1 - 1 ≡ c = omega arith in
-    rw (g, q) (both (both (both (lt-ltb 0 (c + 1) (omega arith)) (le-leb (c + 1) size_count (omega arith))) (lt-ltb bits (ones (slots c)) b)) (eq-eqb cell _ e))
+cut_sound_lem cell bits c l b e = grind arith
 
 -- and each such leaf passes
 pub leaf_sound_lem : (cell bits : ℕ) → LeafCell cell bits → leaf_sound cell bits ≡ true
 unfolding leaf_sound
 leaf_sound_lem cell bits (free_leaf e z) = rw (eq-eqb cell _ e, eq-eqb bits 0 z) refl
 leaf_sound_lem cell bits (whole_leaf e z) = rw (e, z) refl
-leaf_sound_lem cell bits (cut_leaf c l b e) = or_right (eqb cell (cell_of 0 empty) && eqb bits 0 || eqb cell (cell_of 0 whole) && eqb bits 0) (cut_sound_lem cell bits c l b e)
+leaf_sound_lem cell bits (cut_leaf c l b e) = grind (arith, cut_sound_lem cell bits c l b e)
 
 -- a node that passes is the join of its halves, or a large live block above free halves
 pub node_passes : (h cell a b : ℕ) → node_sound h cell a b ≡ true → NodeCell h cell a b
 unfolding node_sound
-node_passes h cell a b e =
-    let x : Bool = eqb cell (cell_of (suc h) whole) in
-    let y : Bool = eqb a (h + 1) in
-    let z : Bool = eqb b (h + 1) in
-    ⊎_elim
-    (λ (p : eqb cell (joined h a b) ≡ true). pair_node (eqb-true cell _ p))
-    (λ (p : x && y && z ≡ true).
-    let q = and_left (x && y) z p in
-    whole_node (eqb-true cell _ (and_left x y q)) (eqb-true a _ (and_right x y q)) (eqb-true b _ (and_right (x && y) z p)))
-    (or_true (eqb cell (joined h a b)) (x && y && z) e)
+node_passes h cell a b e = grind arith
 
 -- and each such node passes
 pub node_sound_lem : (h cell a b : ℕ) → NodeCell h cell a b → node_sound h cell a b ≡ true
 unfolding node_sound
-node_sound_lem h cell a b (pair_node e) = rw (eq-eqb cell (joined h a b) e) refl
-node_sound_lem h cell a b (whole_node e x y) = or_right (eqb cell (joined h a b)) (both (both (eq-eqb cell (cell_of (suc h) whole) e) (eq-eqb a (h + 1) x)) (eq-eqb b (h + 1) y))
+node_sound_lem h cell a b n = grind arith

@@ -1,16 +1,6 @@
 -- The way up to the first tag: on any table whatever it stays within its levels; on a table that holds a tree it finds what stands at a page. Assumes nothing.
-use mathlib.Core.Path.{◌∙◌, ◌≡◌, ap, refl, sym}
-use mathlib.Core.Logic.{◌≢◌, ◌⊎◌, inl, inr, ⊎_elim}
-use mathlib.Core.Bool.{Bool, cond, false, true}
-use mathlib.Core.List.{List}
-use Prim.Native.Nat.{◌%◌, ◌*◌, ◌+◌, ◌-◌, ◌/◌, ◌<◌, ◌^◌, ◌≤◌, suc, zero, ℕ}
-use borrow.Author.Tests.{eq-eqb, eqb-false, ne_eqb}
-use lib.Dec.{eqb}
-use lib.ListN.{get_or}
-use lib.Pow.{pow_pos, shr-shr}
-use native.Mathlib.Nat.{div-lt_iff_lt-mul, le-div_iff_mul-le, mul_assoc}
-use native.Mathlib.Numerals.{add-one}
-use native.Mathlib.Omega.{arith}
+use Rattle.std.proofs.Common.{List, ◌%◌, ◌*◌, ◌+◌, ◌-◌, ◌/◌, ◌<◌, ◌^◌, ◌∙◌, ◌≡◌, ◌≢◌, ◌≤◌, ◌⊎◌, add-one, ap, arith, div-lt_iff_lt-mul, eq-eqb, eqb, false, get_or, inl, inr, le-div_iff_mul-le, mul_assoc, ne_eqb, pow_pos, refl, shr-shr, suc, sym, true, zero, ℕ, ⊎_elim}
+use Rattle.std.proofs.lemmas.Bool.{eqb-false}
 use Rattle.cells.specs.Cell.{tag_in}
 use Rattle.laws.proofs.Logic.{le_or_lt, split}
 use Rattle.trees.proofs.Runs.{span}
@@ -54,34 +44,22 @@ module _ (t : List ℕ) where
 
   -- before the first turn of a loop over the heights 0 to m
   pub located_begin : (m v : ℕ) → located (m + 1 - 0) t v 0 ≡ located (suc m) t v 0
-  located_begin m v =
-      let n : m + 1 - 0 ≡ suc m = omega arith in
-      rw n refl
+  located_begin m v = grind arith
 
   -- one turn of the loop at the height h of m: past a node without a tag, at a node with one, and after the last
   pub located_turn : (m v h : ℕ) → h ≤ m → tag_in (get_or t v 0) ≡ 0 → located (m + 1 - h) t v h ≡ located (m + 1 - (h + 1)) t (v / 2) (h + 1)
-  located_turn m v h l g =
-      let n : m + 1 - h ≡ suc (m + 1 - (h + 1)) = omega arith in
-      ap (λ (x : ℕ). located x t v h) n ∙ (located_skip (m + 1 - (h + 1)) v h g ∙ ap (λ (x : ℕ). located (m + 1 - (h + 1)) t (v / 2) x) (sym (add-one h)))
+  located_turn m v h l g = grind arith
 
   pub located_here : (m v h : ℕ) → h ≤ m → tag_in (get_or t v 0) ≢ 0 → located (m + 1 - h) t v h ≡ h
-  located_here m v h l g =
-      let n : m + 1 - h ≡ suc (m - h) = omega arith in
-      rw n (located_stop (m - h) v h g)
+  located_here m v h l g = grind arith
 
   pub located_end : (m v h : ℕ) → m < h → located (m + 1 - h) t v h ≡ h
-  located_end m v h l =
-      let n : m + 1 - h ≡ 0 = omega arith in
-      rw n refl
+  located_end m v h l = grind arith
 
   -- the height found is one of the n from h on, or h + n
   pub located_range : (n v h : ℕ) → (h ≤ located n t v h) × (located n t v h ≤ h + n)
   located_range zero v h = (omega arith, omega arith)
-  located_range (suc n) v h = go (eqb (tag_in (get_or t v 0)) 0) (located_range n (v / 2) (suc h))
-    where
-      go : (x : Bool) → (suc h ≤ located n t (v / 2) (suc h)) × (located n t (v / 2) (suc h) ≤ suc h + n) → (h ≤ cond x (located n t (v / 2) (suc h)) h) × (cond x (located n t (v / 2) (suc h)) h ≤ h + suc n)
-      go true r = (omega arith, omega arith)
-      go false r = (omega arith, omega arith)
+  located_range (suc n) v h = grind (arith, located_range n (v / 2) (suc h))
 
   -- where a height below h + n is found, the node there has a tag
   pub located_tagged : (n v h : ℕ) → located n t v h < h + n → tag_in (get_or t (above (located n t v h - h) v) 0) ≢ 0
@@ -102,10 +80,7 @@ module _ (t : List ℕ) where
 
   -- the same for the way up from a leaf through the heights 0 to m
   pub located_tag : (m x h v : ℕ) → h ≡ located (suc m) t x 0 → v ≡ above h x → h ≤ m → tag_in (get_or t v 0) ≢ 0
-  located_tag m x h v found node l =
-      let up : h - 0 ≡ h = omega arith in
-      let tagged : tag_in (get_or t (above (h - 0) x) 0) ≢ 0 = rw found (located_tagged (suc m) x 0 (omega arith)) in
-      rw node (rw up at tagged)
+  located_tag m x h v found node l = grind (arith, located_tagged (suc m) x 0 (omega arith))
 
 -- ---- on a table that holds a tree
 

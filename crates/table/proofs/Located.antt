@@ -1,14 +1,7 @@
 -- Give back and which: what the way up from the leaf of a byte says of the live block that holds the byte, or starts there. Assumes nothing.
-use mathlib.Core.Path.{◌∙◌, ◌≡◌, ap, refl, subst, sym}
-use mathlib.Core.Logic.{◌≢◌, ◌⊎◌, inl, inr, ⊎_elim}
-use mathlib.Core.Bool.{◌&&◌, cond, false, not, true}
-use mathlib.Core.Option.{Option, none, some}
-use mathlib.Core.List.{List}
-use Prim.Native.Nat.{◌+◌, ◌-◌, ◌/◌, ◌<◌, ◌^◌, ◌≤◌, suc, ℕ}
-use borrow.Author.Tests.{eq-eqb, eqb-true, le-ltb, lt-ltb, ltb-true, ne_eqb, not-false, not-true}
-use lib.Dec.{leb, ltb}
-use lib.ListN.{get_or}
-use native.Mathlib.Omega.{arith}
+use Rattle.std.proofs.Common.{List, ◌&&◌, ◌+◌, ◌-◌, ◌/◌, ◌<◌, ◌^◌, ◌∙◌, ◌≡◌, ◌≢◌, ◌≤◌, ◌⊎◌, ap, arith, cond, eq-eqb, eqb-true, false, get_or, inl, inr, le-ltb, leb, lt-ltb, ltb, ltb-true, ne_eqb, not, refl, subst, suc, sym, true, ℕ, ⊎_elim}
+use Rattle.std.proofs.Math.Option.{Option, none, some}
+use Rattle.std.proofs.lemmas.Bool.{not-false, not-true}
 use Rattle.cells.specs.Cell.{tag_in, whole_tag}
 use Rattle.digits.specs.Digits.{bit_at}
 use Rattle.laws.proofs.Allowing.{block_size}

@@ -1,11 +1,5 @@
 -- One part of a tree replaced in a table: stored in its place, and climbed from. Assumes nothing.
-use mathlib.Core.Path.{◌∙◌, ◌≡◌, ap, subst, sym}
-use mathlib.Core.List.{List}
-use Prim.Native.Nat.{◌*◌, ◌+◌, ◌-◌, ◌/◌, ◌<◌, ◌^◌, ◌≤◌, suc, ℕ}
-use lib.ListN.{get_or, length}
-use lib.Seq.{get_or-set_same}
-use native.Mathlib.Nat.{add-mul, mul_assoc}
-use native.Mathlib.Omega.{arith}
+use Rattle.std.proofs.Common.{List, ◌*◌, ◌+◌, ◌-◌, ◌/◌, ◌<◌, ◌^◌, ◌∙◌, ◌≡◌, ◌≤◌, add-mul, ap, arith, get_or, get_or-set_same, length, mul_assoc, subst, suc, sym, ℕ}
 use Rattle.cells.specs.Cell.{joined}
 use Rattle.trees.proofs.Changes.{change_from, change_to}
 use Rattle.trees.specs.Change.{Change, here, left, right}

@@ -1,16 +1,8 @@
 -- What a node of any table adds to the figures, its bounds, and the digits of a bitmap. Assumes nothing.
-use mathlib.Core.Path.{◌∙◌, ◌≡◌, ap, refl, sym}
-use mathlib.Core.Logic.{◌≢◌, ◌⊎◌, inl, inr}
-use mathlib.Core.Bool.{Bool, ◌&&◌, cond, false, true}
-use mathlib.Core.List.{List, ◌∷◌}
-use Prim.Native.Nat.{◌%◌, ◌*◌, ◌+◌, ◌-◌, ◌/◌, ◌<◌, ◌^◌, ◌≤◌, suc, zero, ℕ}
-use borrow.Author.Tests.{eqb-false, eqb-true, le-leb, lt-ltb, ne_eqb}
-use lib.Count.{ones_step}
-use lib.Dec.{eqb}
-use lib.ListN.{get_or}
-use lib.Pow.{pow-add, pow_pos}
-use native.Mathlib.Nat.{div-mul-le_self, mul_assoc, mul_comm, mul-le-mul_left, mul-suc, mul-zero, pow-succ'}
-use native.Mathlib.Omega.{arith}
+use Rattle.std.proofs.Common.{List, ◌%◌, ◌*◌, ◌+◌, ◌-◌, ◌/◌, ◌<◌, ◌^◌, ◌∙◌, ◌∷◌, ◌≡◌, ◌≢◌, ◌≤◌, ◌⊎◌, ap, arith, cond, count_ones, eqb, eqb-true, false, get_or, inl, inr, le-leb, lt-ltb, mul_assoc, mul-suc, mul-zero, ne_eqb, pow-add, pow_pos, refl, suc, sym, true, zero, ℕ}
+use Rattle.std.proofs.Math.Nat.{pow-succ'}
+use Rattle.std.proofs.lemmas.Bool.{eqb-false}
+use Rattle.std.specs.Int.Count.{ones_step}
 use Rattle.cells.specs.Cell.{tag_in, whole_tag}
 use Rattle.digits.specs.Digits.{ones}
 use Rattle.laws.proofs.Logic.{split}
@@ -20,7 +12,6 @@ use Rattle.meaning.specs.Bytes.{total}
 use Rattle.trees.specs.Tree.{slot_blocks}
 use Rattle.table.proofs.LevelSums.{level_sum_le, levels_sum_le}
 use Rattle.table.specs.Sums.{by_tag, cut_live, is_cut, levels_sum, node_held, node_live}
-use lib.Count.{ones as count_ones}
 
 -- ---- what a node adds
 
@@ -37,8 +28,7 @@ by_cut tag a b p l = rw (ne_eqb tag whole_tag (λ e. omega arith), lt-ltb 0 tag 
 -- any other node
 pub by_else : (h tag a b : ℕ) → tag ≢ whole_tag → (h ≡ 0 → is_cut tag ≡ false) → by_tag h tag a b ≡ 0
 unfolding by_tag
-by_else zero tag a b n z = rw (ne_eqb tag whole_tag n, z refl) refl
-by_else (suc h) tag a b n z = rw (ne_eqb tag whole_tag n, ne_eqb (suc h) 0 (λ e. omega arith)) refl
+by_else h tag a b p q = grind arith
 
 -- a node without a tag adds nothing
 pub by_none : (h tag a b : ℕ) → tag ≡ 0 → by_tag h tag a b ≡ 0
@@ -50,20 +40,12 @@ by_none h tag a b e = rw e (by_else h 0 a b (λ x. omega arith) (λ x. refl))
 -- what bounds both values bounds the choice
 by_le : (h tag a b k : ℕ) → a ≤ k → b ≤ k → by_tag h tag a b ≤ k
 unfolding by_tag
-by_le h tag a b k p q = go (eqb tag whole_tag) (eqb h 0 && is_cut tag)
-  where
-    go : (x y : Bool) → cond x a (cond y b 0) ≤ k
-    go true y = p
-    go false true = q
-    go false false = omega arith
+by_le h tag a b k p q = grind arith
 
 -- the live slots of a page are at most the page
 pub cut_live_le : (tag bits : ℕ) → cut_live tag bits ≤ page_bytes
 unfolding cut_live slots
-cut_live_le tag bits =
-    let s : ℕ = small (tag - 1) in
-    let x : s * (page_bytes / s - count_ones bits) ≤ s * (page_bytes / s) = mul-le-mul_left s (omega arith) in
-    omega (arith, div-mul-le_self page_bytes s, mul_comm s (page_bytes / s))
+cut_live_le tag bits = grind arith
 
 -- a node of height h adds at most 2 ^ h pages to live
 pub node_live_le : (t : List ℕ) (pages h v : ℕ) → node_live t pages h v ≤ page_bytes * 2 ^ h
@@ -77,10 +59,7 @@ node_held_le t h v = by_le h _ _ _ _ (omega arith) (pow_pos h)
 
 -- no more nodes than a level has, 2 ^ h pages each, are at most all pages
 level_span : (m h n : ℕ) → h ≤ m → n ≤ 2 ^ (m - h) → 2 ^ h * n ≤ 2 ^ m
-level_span m h n l b =
-    let z : h + (m - h) ≡ m = omega arith in
-    let e : 2 ^ m ≡ 2 ^ h * 2 ^ (m - h) = rw z at (pow-add 2 h (m - h)) in
-    rw e (mul-le-mul_left (2 ^ h) b)
+level_span m h n l b = grind (arith, pow-add 2 h (m - h))
 
 -- a sum over nodes of one level is at most the arena
 pub level_live_le : (t : List ℕ) (pages m h v n : ℕ) → h ≤ m → n ≤ 2 ^ (m - h) → total (node_live t pages h) v n ≤ arena m

@@ -1,7 +1,5 @@
 -- Levels and the nodes above a node. Assumes nothing.
-use mathlib.Core.Path.{◌≡◌, refl}
-use Prim.Native.Nat.{◌+◌, ◌/◌, suc, zero, ℕ}
-use native.Mathlib.Omega.{arith}
+use Rattle.std.proofs.Common.{◌+◌, ◌/◌, ◌≡◌, arith, refl, suc, zero, ℕ}
 use Rattle.table.specs.Walks.{above, over}
 
 -- a sum, counted the other way

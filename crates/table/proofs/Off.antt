@@ -1,11 +1,5 @@
 -- Nodes above nodes, and what a store leaves alone. Assumes nothing.
-use mathlib.Core.Path.{◌∙◌, ◌≡◌, ap, refl, sym}
-use mathlib.Core.List.{List}
-use Prim.Native.Nat.{◌*◌, ◌+◌, ◌/◌, ◌<◌, ◌^◌, ◌≤◌, suc, zero, ℕ}
-use lib.ListN.{get_or, length, length-set, set}
-use lib.Seq.{get_or-set_other}
-use native.Mathlib.Nat.{mul_assoc, pow-suc}
-use native.Mathlib.Omega.{arith}
+use Rattle.std.proofs.Common.{List, ◌*◌, ◌+◌, ◌/◌, ◌<◌, ◌^◌, ◌∙◌, ◌≡◌, ◌≤◌, ap, arith, get_or, get_or-set_other, length, length-set, mul_assoc, pow-suc, refl, set, suc, sym, zero, ℕ}
 use Rattle.trees.specs.Tree.{Tree}
 use Rattle.table.proofs.Cells.{enc_small}
 use Rattle.table.proofs.Nodes.{above_half}
@@ -31,9 +25,7 @@ node_twice u d = omega (arith, ap (λ (x : ℕ). u * x) (pow-suc 2 d) ∙ sym (m
 -- part r of the 2 ^ d nodes that stand d levels below u
 pub above_part : (d u r : ℕ) → r < 2 ^ d → above d (u * 2 ^ d + r) ≡ u
 above_part zero u r l = omega arith
-above_part (suc d) u r l =
-    let e : (u * 2 ^ suc d + r) / 2 ≡ u * 2 ^ d + r / 2 = omega (arith, node_twice u d) in
-    ap (above d) e ∙ above_part d u (r / 2) (omega (arith, pow-suc 2 d))
+above_part (suc d) u r l = grind (arith, node_twice u d, above_part d u (r / 2) (omega (arith, pow-suc 2 d)))
 
 -- ---- nodes apart
 
@@ -128,16 +120,11 @@ elsewhere_bits t pages w b l = record {
 
 -- one change after another
 pub elsewhere_next : (t t' t'' : List ℕ) (pages w : ℕ) → Elsewhere t t' pages w → Elsewhere t' t'' pages w → Elsewhere t t'' pages w
-elsewhere_next t t' t'' pages w a b = record {
-  long = b.long ∙ a.long;
-  cells = λ u g o. b.cells u g o ∙ a.cells u g o;
-  bits = λ u f g o. b.bits u f g o ∙ a.bits u f g o;
-}
+elsewhere_next t t' t'' pages w a b = grind arith
 
 -- a store at the bitmap of the leaf w, then at its cell
 pub elsewhere_leaf : (t : List ℕ) (pages w b x : ℕ) → pages ≤ w → w < 2 * pages → Elsewhere t (set (set t (w + pages) b) w x) pages w
-elsewhere_leaf t pages w b x g l =
-    elsewhere_next t (set t (w + pages) b) (set (set t (w + pages) b) w x) pages w (elsewhere_bits t pages w b g) (elsewhere_cell (set t (w + pages) b) pages w x l)
+elsewhere_leaf t pages w b x g l = grind (arith, elsewhere_bits t pages w b g, elsewhere_cell (set t (w + pages) b) pages w x l)
 
 -- what differs only below w differs only below the half of w
 pub elsewhere_half : (t t' : List ℕ) (pages w : ℕ) → Elsewhere t t' pages w → Elsewhere t t' pages (w / 2)

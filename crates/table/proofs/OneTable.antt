@@ -1,17 +1,9 @@
 -- Tables and allowed sets of live blocks correspond one to one: a table stands for one set at most, a set has one table and no more, and
 -- only allowed sets have tables. Assumes nothing.
-use mathlib.Core.Path.{◌∙◌, ◌≡◌, ap, ap₂, refl, sym}
-use mathlib.Core.Logic.{◌↔◌, ⊎_elim}
-use mathlib.Core.List.{List}
-use Prim.Native.Nat.{◌*◌, ◌+◌, ◌-◌, ◌<◌, ◌^◌, ◌≤◌, suc, zero, ℕ}
-use lib.ListN.{get_or, length, length-take, take}
-use lib.Pow.{pow_mono, pow_pos}
-use lib.Seq.{ext_get_or, get_or-take}
-use native.Mathlib.Nat.{pow-succ'}
-use native.Mathlib.Omega.{arith}
-use Rattle.digits.specs.Digits.{ones}
+use Rattle.std.proofs.Common.{List, ◌*◌, ◌+◌, ◌-◌, ◌<◌, ◌^◌, ◌↔◌, ◌∙◌, ◌≡◌, ◌≤◌, ap, ap₂, arith, ext_get_or, get_or, get_or-take, length, length-take, pow_mono, pow_pos, refl, suc, sym, take, zero, ℕ, ⊎_elim}
+use Rattle.std.proofs.Math.Nat.{pow-succ'}
 use Rattle.laws.proofs.Logic.{le_or_lt}
-use Rattle.meaning.specs.Blocks.{Allowed, Live, m_most, slots}
+use Rattle.meaning.specs.Blocks.{Allowed, Live, m_most}
 use Rattle.trees.proofs.Exists.{tree_of}
 use Rattle.trees.proofs.Unique.{tree_unique}
 use Rattle.trees.specs.Tree.{Tree, WF, blocks, cut, empty, pair, whole}
@@ -29,23 +21,7 @@ module _ (t : List ℕ) (pages : ℕ) where
 
   -- two trees at one leaf are one
   same_leaf : (v : ℕ) (T U : Tree) → tag_of T ≡ tag_of U → Encodes t pages v zero T → Encodes t pages v zero U → T ≡ U
-  same_leaf v empty empty g e f = refl
-  same_leaf v empty (cut c b) g e f = absurd (omega arith)
-  same_leaf v empty whole g e f = absurd (omega arith)
-  same_leaf v empty (pair l r) g e f = absurd f.1
-  same_leaf v (cut c b) empty g e f = absurd (omega arith)
-  same_leaf v (cut c b) (cut d a) g e f =
-      let q : c ≡ d = omega arith in
-      let z : ones (slots c) - b ≡ ones (slots c) - a = sym e.3 ∙ (rw (← q) at f.3) in
-      let y : a < 2 ^ slots c = rw (← q) at f.1.2 in
-      ap₂ cut q (omega (arith, e.1.2))
-  same_leaf v (cut c b) whole g e f = absurd (omega (arith, e.1.0))
-  same_leaf v (cut c b) (pair l r) g e f = absurd f.1
-  same_leaf v whole empty g e f = absurd (omega arith)
-  same_leaf v whole (cut c b) g e f = absurd (omega (arith, f.1.0))
-  same_leaf v whole whole g e f = refl
-  same_leaf v whole (pair l r) g e f = absurd f.1
-  same_leaf v (pair l r) U g e f = absurd e.1
+  same_leaf v T U g a b = grind arith
 
   -- two trees at one node are one
   pub one_encoded : (h v : ℕ) (T U : Tree) → h < 62 → Encodes t pages v h T → Encodes t pages v h U → T ≡ U

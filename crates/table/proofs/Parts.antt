@@ -1,25 +1,16 @@
 -- The table of a tree as a function of it: each needed cell of a table that holds a tree, and a table that holds it. Assumes nothing.
-use mathlib.Core.Path.{◌∙◌, ◌≡◌, ap, refl, subst, sym}
-use mathlib.Core.Logic.{◌↔◌, ◌⊎◌, inl, inr, ⊎_elim}
-use mathlib.Core.List.{List}
-use Prim.Native.Nat.{◌%◌, ◌*◌, ◌+◌, ◌-◌, ◌/◌, ◌<◌, ◌^◌, ◌≤◌, suc, zero, ℕ}
-use borrow.Author.Tests.{le-leb, le-ltb, lt-leb, lt-ltb, ne_eqb}
-use lib.Pow.{pow_mono, pow_pos}
-use native.Mathlib.Nat.{pow-succ', sub_self}
-use native.Mathlib.Omega.{arith}
+use Rattle.std.proofs.Common.{List, ◌*◌, ◌+◌, ◌-◌, ◌/◌, ◌<◌, ◌^◌, ◌↔◌, ◌∙◌, ◌≡◌, ◌≤◌, ap, arith, le-leb, lt-ltb, ne_eqb, pow_mono, pow_pos, refl, suc, sym, zero, ℕ, ⊎_elim}
+use Rattle.std.proofs.Math.Nat.{pow-succ', sub_self}
+use Rattle.std.proofs.lemmas.Bool.{lt-leb}
 use Rattle.laws.proofs.Logic.{le_or_lt}
 use Rattle.trees.proofs.Changes.{vacant_wf}
-use Rattle.trees.specs.Tree.{Tree, WF, wf_cut, wf_empty, wf_pair, wf_whole}
+use Rattle.trees.specs.Tree.{Tree, WF, wf_pair, wf_whole}
 use Rattle.table.specs.Parts.{NodeOf, cell_at, depth_of, part_at}
 use Rattle.table.specs.Table.{Encodes, Fit, bits_of, cell_of, left_of, right_of}
 
 -- a tree of height h may stand at a node of height h
 pub wf_fit : {h : ℕ} {T : Tree} → WF h T → Fit h T
-wf_fit wf_empty = tt
-wf_fit (wf_cut a b c) = (a, b, c)
-wf_fit (wf_whole {h = zero}) = tt
-wf_fit (wf_whole {h = suc h}) = tt
-wf_fit (wf_pair u v) = tt
+wf_fit w = grind arith
 
 -- the left half of a tree is a tree
 pub left_wf : {h : ℕ} {T : Tree} → WF (suc h) T → WF h (left_of h T)
@@ -31,48 +22,25 @@ pub right_wf : {h : ℕ} {T : Tree} → WF (suc h) T → WF h (right_of h T)
 right_wf (wf_whole {h = suc h}) = vacant_wf h
 right_wf (wf_pair u v) = v
 
--- a node is the left half of the one above it, or the right half
-pub even_or_odd : (v : ℕ) → ((v % 2 ≡ 0) × (v ≡ 2 * (v / 2))) ⊎ ((v % 2 ≡ 1) × (v ≡ 2 * (v / 2) + 1))
-even_or_odd v = ⊎_elim (λ (l : v % 2 ≤ 0). inl (omega arith, omega arith)) (λ (l : 0 < v % 2). inr (omega arith, omega arith)) (le_or_lt (v % 2) 0)
-
 -- ---- the parts of a tree
 
 module _ (m : ℕ) (T : Tree) where
   -- the left half of the part at v is the part at 2v
   pub part_left : (d h v : ℕ) → suc d + h ≡ m → part_at m (suc d) (2 * v) T ≡ left_of h (part_at m d v T)
   unfolding part_at
-  part_left d h v e =
-      let q : m - suc d ≡ h = omega arith in
-      let x : 2 * v / 2 ≡ v = omega arith in
-      let y : 2 * v % 2 ≡ 0 = omega arith in
-      rw (y, x, q)
+  part_left d h v e = grind arith
 
   -- the right half of the part at v is the part at 2v + 1
   pub part_right : (d h v : ℕ) → suc d + h ≡ m → part_at m (suc d) (2 * v + 1) T ≡ right_of h (part_at m d v T)
   unfolding part_at
-  part_right d h v e =
-      let q : m - suc d ≡ h = omega arith in
-      let x : (2 * v + 1) / 2 ≡ v = omega arith in
-      let y : (2 * v + 1) % 2 ≡ 1 = omega arith in
-      rw (y, x, q)
+  part_right d h v e = grind arith
 
   -- what the root has, and what passes from each node to its halves, every node has
   pub parts_all : (P : ℕ → ℕ → Tree → Type 0) → ((h v : ℕ) (S : Tree) → P (suc h) v S → P h (2 * v) (left_of h S)) → ((h v : ℕ) (S : Tree) → P (suc h) v S → P h (2 * v + 1) (right_of h S))
       → P m 1 T → (d h v : ℕ) → d + h ≡ m → 2 ^ d ≤ v → v < 2 * 2 ^ d → P h v (part_at m d v T)
   unfolding part_at
-  parts_all P l r p zero h v e a b =
-      let x : m ≡ h = omega arith in
-      let y : 1 ≡ v = omega arith in
-      rw (← x, ← y) p
-  parts_all P l r p (suc d) h v e a b = go (parts_all P l r p d (suc h) (v / 2) (omega arith) (omega (arith, pow-succ' 2 d)) (omega (arith, pow-succ' 2 d))) (even_or_odd v)
-    where
-      go : P (suc h) (v / 2) (part_at m d (v / 2) T) → ((v % 2 ≡ 0) × (v ≡ 2 * (v / 2))) ⊎ ((v % 2 ≡ 1) × (v ≡ 2 * (v / 2) + 1)) → P h v (part_at m (suc d) v T)
-      go q (inl z) =
-          let x : m - suc d ≡ h = omega arith in
-          rw (z.0, x) (subst (λ (w : ℕ). P h w (left_of h (part_at m d (v / 2) T))) (sym z.1) (l h (v / 2) (part_at m d (v / 2) T) q))
-      go q (inr z) =
-          let x : m - suc d ≡ h = omega arith in
-          rw (z.0, x) (subst (λ (w : ℕ). P h w (right_of h (part_at m d (v / 2) T))) (sym z.1) (r h (v / 2) (part_at m d (v / 2) T) q))
+  parts_all P l r p zero h v e a b = grind arith
+  parts_all P l r p (suc d) h v e a b = grind (arith, parts_all P l r p d (suc h) (v / 2) (omega arith) (omega (arith, pow-succ' 2 d)) (omega (arith, pow-succ' 2 d)))
 
   -- every part of a tree is a tree
   pub part_wf : WF m T → (d h v : ℕ) → d + h ≡ m → 2 ^ d ≤ v → v < 2 * 2 ^ d → WF h (part_at m d v T)
@@ -94,9 +62,7 @@ root_node m = let z : 2 ^ (m - m) ≡ 1 = ap (λ (x : ℕ). 2 ^ x) (sub_self m) 
 
 -- the leaves are the nodes of height 0
 pub node_leaf : (m v : ℕ) → NodeOf m 0 v ↔ ((2 ^ m ≤ v) × (v < 2 * 2 ^ m))
-node_leaf m v =
-    let z : 2 ^ (m - 0) ≡ 2 ^ m = ap (λ (x : ℕ). 2 ^ x) (omega arith) in
-    (λ n. (omega (arith, n.from), omega (arith, n.below)), λ n. record { from = omega (arith, n.0); below = omega (arith, n.1) })
+node_leaf m v = grind arith
 
 -- a level has twice the nodes of the level above it
 pub next_level : (m h : ℕ) → h < m → 2 ^ (m - h) ≡ 2 * 2 ^ (m - suc h)
@@ -152,6 +118,4 @@ module _ (m : ℕ) (T : Tree) where
   -- a leaf has the bitmap of its part
   pub cell_at_bits : (v : ℕ) → 2 ^ m ≤ v → v < 2 * 2 ^ m → cell_at m T (v + 2 ^ m) ≡ bits_of (part_at m m v T)
   unfolding cell_at
-  cell_at_bits v a b =
-      let x : v + 2 ^ m - 2 ^ m ≡ v = omega arith in
-      rw (ne_eqb (v + 2 ^ m) 0 (λ z. omega (arith, pow_pos m)), le-ltb (v + 2 ^ m) (2 * 2 ^ m) (omega arith), x) refl
+  cell_at_bits v a b = grind arith

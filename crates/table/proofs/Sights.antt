@@ -1,19 +1,11 @@
 -- What a table that holds a tree shows at a byte of the arena: nothing live, a large block, or a slot of a page. Assumes nothing.
-use mathlib.Core.Path.{◌∙◌, ◌≡◌, ap, refl, subst}
-use mathlib.Core.Logic.{◌≢◌, ◌⊎◌, inl, inr, ⊎_elim}
-use mathlib.Core.Bool.{◌&&◌, cond, false, true}
-use mathlib.Core.Option.{none, some}
-use mathlib.Core.List.{List}
-use Prim.Native.Nat.{◌%◌, ◌*◌, ◌+◌, ◌-◌, ◌/◌, ◌<◌, ◌^◌, ◌≤◌, suc, zero, ℕ}
-use borrow.Author.Tests.{le-leb, le-ltb, lt-leb, lt-ltb}
-use lib.Dec.{leb, ltb}
-use lib.ListN.{get_or}
-use lib.Pow.{high}
-use native.Mathlib.Nat.{add-mul, div-mul-le_self, lt-div-mul-add, mul-le-mul_right, suc-mul, zero-add, zero-mul}
-use native.Mathlib.Omega.{arith}
+use Rattle.std.proofs.Common.{List, ◌%◌, ◌&&◌, ◌*◌, ◌+◌, ◌-◌, ◌/◌, ◌<◌, ◌^◌, ◌∙◌, ◌≡◌, ◌≢◌, ◌≤◌, ◌⊎◌, add-mul, ap, arith, cond, div-mul-le_self, false, get_or, inl, inr, le-leb, le-ltb, lt-ltb, ltb, mul-le-mul_right, refl, subst, suc, suc-mul, true, zero, zero-add, zero-mul, ℕ, ⊎_elim}
+use Rattle.std.proofs.Math.Nat.{lt-div-mul-add}
+use Rattle.std.proofs.Math.Option.{none, some}
+use Rattle.std.proofs.Math.Pow.{high}
 use Rattle.cells.specs.Cell.{tag_in, whole_tag}
 use Rattle.digits.specs.Digits.{bit_at}
-use Rattle.laws.proofs.Logic.{and_false, le_or_lt}
+use Rattle.laws.proofs.Logic.{le_or_lt}
 use Rattle.laws.proofs.Sizes.{small_pos}
 use Rattle.meaning.specs.Answers.{holds}
 use Rattle.meaning.specs.Blocks.{Block, Live, arena, ends, large, page_bytes, size_count, slot, slots, small}
@@ -55,8 +47,7 @@ block_holds o b x y = rw (le-leb b.start o x, lt-ltb o (ends b) y) refl
 
 block_holds_not : (o : ℕ) (b : Block) → (o < b.start) ⊎ (ends b ≤ o) → holds o b ≡ false
 unfolding holds
-block_holds_not o b (inl x) = rw (lt-leb b.start o x) refl
-block_holds_not o b (inr x) = rw (le-ltb o (ends b) x) (and_false (leb b.start o))
+block_holds_not o b h = grind arith
 
 -- the live block at a byte of a large block
 find_large : (o k j : ℕ) → page_bytes * (j * 2 ^ k) ≤ o → o < page_bytes * (j * 2 ^ k + 2 ^ k) → find (holds o) (blocks k (j * 2 ^ k) whole) ≡ some (large k j)

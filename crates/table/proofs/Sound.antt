@@ -1,13 +1,5 @@
 -- Check-up: all local tests pass on the tables that stand for a set of live blocks, and on no other. Assumes nothing.
-use mathlib.Core.Path.{◌∙◌, ◌≡◌, ap, refl, subst, sym}
-use mathlib.Core.Logic.{◌↔◌, ⊎_elim}
-use mathlib.Core.Bool.{cond, false, true}
-use mathlib.Core.List.{List}
-use Prim.Native.Nat.{◌*◌, ◌+◌, ◌-◌, ◌<◌, ◌^◌, ◌≤◌, suc, zero, ℕ}
-use lib.Dec.{eqb}
-use lib.ListN.{get_or, length}
-use native.Mathlib.Numerals.{add-one}
-use native.Mathlib.Omega.{arith}
+use Rattle.std.proofs.Common.{List, ◌*◌, ◌+◌, ◌-◌, ◌<◌, ◌^◌, ◌↔◌, ◌∙◌, ◌≡◌, ◌≤◌, add-one, ap, arith, cond, eqb, false, get_or, length, refl, subst, suc, sym, true, zero, ℕ, ⊎_elim}
 use Rattle.cells.specs.Cell.{packed, room_in}
 use Rattle.digits.specs.Digits.{ones}
 use Rattle.laws.proofs.Logic.{contra, le_or_lt}
@@ -34,13 +26,9 @@ leaf_of_tree t pages v (pair l r) e = absurd e.1
 -- a node that holds a tree
 pub node_of_tree : (t : List ℕ) (pages v h : ℕ) (T : Tree) → h < 62 → Encodes t pages v (suc h) T → NodeCell h (get_or t v 0) (get_or t (2 * v) 0) (get_or t (2 * v + 1) 0)
 node_of_tree t pages v h empty b e = absurd e.1
-node_of_tree t pages v h whole b e =
-    whole_node e.0 (enc_cell t pages (2 * v) h (vacant h) e.2 ∙ vacant_cell h) (enc_cell t pages (2 * v + 1) h (vacant h) e.3 ∙ vacant_cell h)
+node_of_tree t pages v h whole b e = grind (arith, vacant_cell h)
 node_of_tree t pages v h (cut c k) b e = absurd e.1
-node_of_tree t pages v h (pair l r) b e =
-    let x = enc_cell t pages (2 * v) h l e.2 in
-    let y = enc_cell t pages (2 * v + 1) h r e.3 in
-    pair_node (e.0 ∙ (sym (join_cell h l r b (enc_fit t pages (2 * v) h l e.2) (enc_fit t pages (2 * v + 1) h r e.3)) ∙ rw (x, y) refl))
+node_of_tree t pages v h (pair l r) b e = grind (arith, enc_cell t pages (2 * v) h l e.2, enc_cell t pages (2 * v + 1) h r e.3, join_cell h l r b (enc_fit t pages (2 * v) h l e.2) (enc_fit t pages (2 * v + 1) h r e.3))
 
 -- every test passes at a node that holds a tree
 pub encodes_local : (t : List ℕ) (pages v h : ℕ) (T : Tree) → h < 62 → Encodes t pages v h T → sound_at t pages h v ≡ true
@@ -122,10 +110,7 @@ levels_sound_none t m k v b l n = absurd (omega arith)
 
 -- one level more
 pub levels_sound_more : (t : List ℕ) (m h first : ℕ) → first ≡ 2 ^ (m - h) → LevelsSound t m h → RunSound t (2 ^ m) h first (2 * first) → LevelsSound t m (h + 1)
-levels_sound_more t m h first e f r k v b l n = ⊎_elim
-    (λ (y : h ≤ k). let z : h ≡ k = omega arith in let w : first ≡ 2 ^ (m - k) = e ∙ ap (λ (x : ℕ). 2 ^ (m - x)) z in rw (← z) (r v (omega (arith, n.from)) (omega (arith, n.below))))
-    (λ (y : k < h). f k v y l n)
-    (le_or_lt h k)
+levels_sound_more t m h first e f r k v b l n = grind arith
 
 -- all levels
 pub levels_sound_all : (t : List ℕ) (m h : ℕ) → m < h → LevelsSound t m h → LevelsSound t m (m + 1)

@@ -1,8 +1,5 @@
 -- What a table that stands for a set of live blocks holds at its root. Assumes nothing.
-use mathlib.Core.Path.{◌≡◌, subst}
-use mathlib.Core.List.{List}
-use Prim.Native.Nat.{◌+◌, ◌<◌, ◌^◌, ℕ}
-use native.Mathlib.Omega.{arith}
+use Rattle.std.proofs.Common.{List, ◌+◌, ◌<◌, ◌^◌, ◌≡◌, arith, subst, ℕ}
 use Rattle.meaning.specs.Blocks.{Allowed, Live}
 use Rattle.trees.proofs.Exists.{tree_allowed}
 use Rattle.trees.specs.Tree.{WF}

@@ -1,13 +1,6 @@
 -- The table of no live block, and how start's loops make it. Assumes nothing.
-use mathlib.Core.Path.{◌∙◌, ◌≡◌, ap, refl, sym}
-use mathlib.Core.Logic.{⊎_elim}
-use mathlib.Core.List.{List, []}
-use Prim.Native.Nat.{◌*◌, ◌+◌, ◌-◌, ◌/◌, ◌<◌, ◌^◌, ◌≤◌, suc, zero, ℕ}
-use lib.ListN.{get_or, length, length-set, set}
-use lib.Pow.{pow_mono, pow_pos}
-use lib.Seq.{get_or-set_other, get_or-set_same}
-use native.Mathlib.Nat.{pow-succ'}
-use native.Mathlib.Omega.{arith}
+use Rattle.std.proofs.Common.{List, [], ◌*◌, ◌+◌, ◌-◌, ◌/◌, ◌<◌, ◌^◌, ◌∙◌, ◌≡◌, ◌≤◌, ap, arith, get_or, get_or-set_other, get_or-set_same, length, length-set, pow_mono, pow_pos, refl, set, suc, sym, zero, ℕ, ⊎_elim}
+use Rattle.std.proofs.Math.Nat.{pow-succ'}
 use Rattle.laws.proofs.Logic.{le_or_lt}
 use Rattle.meaning.specs.Blocks.{m_most}
 use Rattle.trees.proofs.Changes.{no_blocks, vacant_empty, vacant_wf}
@@ -45,22 +38,11 @@ level_few m h l = pow_mono {i = m - h} {j = m_most} (omega arith)
 
 -- half of a level's first node is the first of the next level up
 pub half_power : (m h first : ℕ) → h < m → first ≡ 2 ^ (m - h) → first / 2 ≡ 2 ^ (m - (h + 1))
-half_power m h first l e =
-    let z : m - (h + 1) ≡ m - suc h = omega arith in
-    let q = next_level m h l in
-    rw z (omega arith)
+half_power m h first l e = grind (arith, next_level m h l)
 
 -- the bitmaps and the spare cell are blank: no level is filled yet
 pub begun_none : (t u t' : List ℕ) (m : ℕ) → Filled t u (2 * 2 ^ m) (need m) 0 → Filled u t' 0 1 0 → Begun t t' m 0
-begun_none t u t' m f g =
-    let p = pow_pos m in
-    record {
-      long = g.long ∙ f.long;
-      spare = g.inside 0 (omega arith) (omega arith);
-      levels = λ k v b l n. absurd (omega arith);
-      blank = λ j a b. g.outside j (λ x y. omega arith) ∙ f.inside j a b;
-      rest = λ i a. g.outside i (λ x y. omega arith) ∙ f.outside i (λ x y. omega arith);
-    }
+begun_none t u t' m f g = grind (arith, pow_pos m)
 
 -- the level h is filled
 pub begun_more : (t u u' : List ℕ) (m h first : ℕ) → h ≤ m → first ≡ 2 ^ (m - h) → Begun t u m h → Filled u u' first (2 * first) (h + 1) → Begun t u' m (h + 1)

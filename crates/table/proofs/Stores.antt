@@ -1,10 +1,5 @@
 -- A part of the tree stored in its place: a free run made a large block and back, and a page. Assumes nothing.
-use mathlib.Core.Path.{◌∙◌, ◌≡◌, refl, subst}
-use mathlib.Core.List.{List}
-use Prim.Native.Nat.{◌*◌, ◌+◌, ◌<◌, ◌≤◌, suc, zero, ℕ}
-use lib.ListN.{length, set}
-use lib.Seq.{get_or-set_other, get_or-set_same, lt-length-set}
-use native.Mathlib.Omega.{arith}
+use Rattle.std.proofs.Common.{List, ◌*◌, ◌+◌, ◌<◌, ◌∙◌, ◌≡◌, ◌≤◌, arith, get_or-set_other, get_or-set_same, length, lt-length-set, refl, set, subst, suc, zero, ℕ}
 use Rattle.trees.specs.Tree.{Tree, vacant, whole}
 use Rattle.table.proofs.Off.{enc_off, off_larger}
 use Rattle.table.proofs.Vacant.{vacant_cell}

@@ -1,17 +1,11 @@
 -- What the summary of a tree says: how much room there is, whether all of it is free, and which sizes have a slot. Assumes nothing.
-use mathlib.Core.Path.{◌∙◌, ◌≡◌, ap, ap₂, refl, sym}
-use mathlib.Core.Logic.{◌≢◌, ◌⊎◌, inl, inr, ⊎_elim}
-use mathlib.Core.Bool.{Bool, ◌&&◌, ◌||◌, cond, false, not, true}
-use mathlib.Core.Option.{Option, none, some}
-use Prim.Native.Nat.{◌+◌, ◌<◌, ◌^◌, max, suc, zero, ℕ}
-use borrow.Author.Tests.{eq-eqb, eqb-false, eqb-true, le-ltb, lt-ltb, ne_eqb, not-false}
-use lib.Dec.{eqb, ltb}
-use lib.Pow.{pow_pos}
-use native.Mathlib.Omega.{arith}
+use Rattle.std.proofs.Common.{Bool, ◌&&◌, ◌+◌, ◌<◌, ◌^◌, ◌||◌, ◌∙◌, ◌≡◌, ◌≢◌, ◌⊎◌, ap, ap₂, arith, cond, eq-eqb, eqb, false, inl, inr, le-ltb, lt-ltb, ltb, max, ne_eqb, not, pow_pos, refl, suc, sym, true, zero, ℕ}
+use Rattle.std.proofs.Math.Option.{Option, none, some}
+use Rattle.std.proofs.lemmas.Bool.{not-false}
 use Rattle.cells.specs.Cell.{room_of_pair}
 use Rattle.digits.proofs.Digits.{bit_at-bit_or, bit_complement, bit_pow, bit_zero, bits_none}
 use Rattle.digits.specs.Digits.{bit_at}
-use Rattle.laws.proofs.Logic.{and_false, and_left, and_right, and_true, contra, has_or, split}
+use Rattle.laws.proofs.Logic.{and_left, and_right, contra, has_or, split}
 use Rattle.laws.proofs.Searches.{lowest_none}
 use Rattle.meaning.specs.Blocks.{slots}
 use Rattle.meaning.specs.Search.{has, least, or_else}
@@ -86,20 +80,10 @@ open_slot c taken b = go (lowest_zero (slots c) taken) refl
         let partial : open_bits c taken ≢ 0 = λ x. contra (open_bit c taken i b z.0 ∙ ap not z.1) (ap (bit_at i) x ∙ bit_zero i) in
         rw (e, ne_eqb (open_bits c taken) 0 partial) refl
 
-eqb_swap : (a b : ℕ) → eqb a b ≡ eqb b a
-eqb_swap a b = ⊎_elim
-    (λ (t : eqb a b ≡ true). t ∙ sym (eq-eqb b a (sym (eqb-true a b t))))
-    (λ (t : eqb a b ≡ false). t ∙ sym (ne_eqb b a (λ e. eqb-false a b t (sym e))))
-    (split (eqb a b))
-
 -- a page's mask has the digit of the size that it serves, where it has a slot
 leaf_mask : (c d taken : ℕ) → taken < 2 ^ slots d → bit_at c (mask_of (cut d taken)) ≡ has_room c (cut d taken)
 unfolding has_room
-leaf_mask c d taken b = rw (open_slot d taken b) (go (eqb (open_bits d taken) 0))
-  where
-    go : (x : Bool) → bit_at c (cond x 0 (2 ^ d)) ≡ eqb d c && not x
-    go true = bit_zero c ∙ sym (and_false (eqb d c))
-    go false = bit_pow c d ∙ (eqb_swap c d ∙ sym (and_true (eqb d c)))
+leaf_mask c d taken b = grind (arith, open_slot d taken b, bit_zero c, bit_pow c d)
 
 found_here : (x : Bool) (q : ℕ) → x ≡ has (cond x (some q) none)
 unfolding has

@@ -1,12 +1,8 @@
 -- The figures: the sums over the nodes of a table that stands for a set of live blocks are that set's. Assumes nothing.
-use mathlib.Core.Path.{◌∙◌, ◌≡◌, ap, ap₂, refl, sym}
-use mathlib.Core.List.{List}
-use Prim.Native.Nat.{◌*◌, ◌+◌, ◌-◌, ◌<◌, ◌^◌, suc, zero, ℕ}
-use lib.ListN.{get_or}
-use native.Mathlib.Omega.{arith}
+use Rattle.std.proofs.Common.{List, ◌*◌, ◌+◌, ◌<◌, ◌^◌, ◌∙◌, ◌≡◌, ap, ap₂, arith, get_or, refl, suc, sym, zero, ℕ}
 use Rattle.cells.specs.Cell.{room_in, tag_in}
 use Rattle.meaning.specs.Answers.{held_bytes, live_bytes, room_up_to}
-use Rattle.meaning.specs.Blocks.{Live, page_bytes, slots, small}
+use Rattle.meaning.specs.Blocks.{Live, page_bytes, slots}
 use Rattle.trees.proofs.Sums.{live_append, tree_held, tree_room}
 use Rattle.trees.specs.Sums.{room_bytes, used}
 use Rattle.trees.specs.Tree.{Tree, blocks, cut, empty, pair, vacant, whole}
@@ -62,10 +58,7 @@ module _
 -- the live bytes of a page that serves a size
 cut_live_lem : (q c bits : ℕ) → bits < 2 ^ slots c → live_bytes (blocks 0 q (cut c bits)) ≡ cut_live (c + 1) (open_bits c bits)
 unfolding blocks cut_live
-cut_live_lem q c bits l =
-    let z : c + 1 - 1 ≡ c = omega arith in
-    let n = open_count_lem (slots c) bits l in
-    rw z (slots_live c q 0 (slots c) bits l ∙ ap (λ (x : ℕ). small c * x) (omega arith))
+cut_live_lem q c bits l = grind (arith, open_count_lem (slots c) bits l, slots_live c q 0 (slots c) bits l)
 
 -- of a large block
 whole_live : (h q : ℕ) → live_bytes (blocks h q whole) ≡ page_bytes * 2 ^ h

@@ -1,17 +1,7 @@
 -- The climb, as a function of any table whatever: what it writes and what it leaves alone. Assumes nothing.
-use mathlib.Core.Path.{◌∙◌, ◌≡◌, ap, ap₂, refl, sym}
-use mathlib.Core.Logic.{⊎_elim}
-use mathlib.Core.List.{List}
-use Prim.Native.Nat.{◌%◌, ◌*◌, ◌+◌, ◌-◌, ◌/◌, ◌<◌, ◌^◌, ◌≤◌, suc, zero, ℕ}
-use lib.Bits.{or_comm}
-use lib.ListN.{get_or, length, length-set, set}
-use lib.Pow.{pow_pos}
-use lib.Seq.{get_or-set_other, get_or-set_same}
-use native.Mathlib.Nat.{pow-suc}
-use native.Mathlib.Numerals.{add-one}
-use native.Mathlib.Omega.{arith}
+use Rattle.std.proofs.Common.{List, ◌%◌, ◌*◌, ◌+◌, ◌-◌, ◌/◌, ◌<◌, ◌^◌, ◌∙◌, ◌≡◌, ◌≤◌, add-one, ap, ap₂, arith, get_or, get_or-set_other, get_or-set_same, length, length-set, pow_pos, pow-suc, refl, set, suc, sym, zero, ℕ}
+use Rattle.std.proofs.lemmas.Nat.{or_comm}
 use Rattle.cells.specs.Cell.{joined, mask_in}
-use Rattle.laws.proofs.Logic.{le_or_lt}
 use Rattle.table.proofs.Nodes.{over_suc}
 use Rattle.table.proofs.Off.{Elsewhere, above_le, elsewhere_cell, elsewhere_half, elsewhere_next}
 use Rattle.table.specs.Walks.{above, climbed, mended, over}
@@ -28,9 +18,7 @@ climbed_length (suc n) t v h = climbed_length n (mended t (v / 2) h) (v / 2) (su
 -- the last step of a climb
 pub climbed_last : (n : ℕ) (t : List ℕ) (v h : ℕ) → climbed (suc n) t v h ≡ mended (climbed n t v h) (above (suc n) v) (over n h)
 climbed_last zero t v h = refl
-climbed_last (suc n) t v h =
-    climbed_last n (mended t (v / 2) h) (v / 2) (suc h)
-    ∙ ap (mended (climbed n (mended t (v / 2) h) (v / 2) (suc h)) (above (suc n) (v / 2))) (over_suc n h)
+climbed_last (suc n) t v h = grind (arith, climbed_last n (mended t (v / 2) h) (v / 2) (suc h), over_suc n h)
 
 -- a climb from w changes nothing but what is at or below the node where it ends
 pub climbed_elsewhere : (n : ℕ) (t t' : List ℕ) (pages w h : ℕ) → w < 2 * pages → Elsewhere t t' pages w → Elsewhere t (climbed n t' w h) pages (above n w)
@@ -76,17 +64,7 @@ sibling_small pages v l = omega arith
 
 -- a node and its sibling, joined, are the two halves joined
 pub sibling_joined : (t : List ℕ) (h v : ℕ) → joined h (get_or t v 0) (get_or t (sibling v) 0) ≡ joined h (get_or t (2 * (v / 2)) 0) (get_or t (2 * (v / 2) + 1) 0)
-sibling_joined t h v =
-    ⊎_elim
-    (λ (g : 1 ≤ v % 2).
-    let e : 2 * (v / 2) + 1 ≡ v = omega arith in
-    let f : sibling v ≡ 2 * (v / 2) = omega arith in
-    rw (e, f) (joined_swap h (get_or t v 0) (get_or t (2 * (v / 2)) 0)))
-    (λ (g : v % 2 < 1).
-    let e : 2 * (v / 2) ≡ v = omega arith in
-    let f : sibling v ≡ v + 1 = omega arith in
-    rw (e, f) refl)
-    (le_or_lt 1 (v % 2))
+sibling_joined t h v = grind (arith, joined_swap h (get_or t v 0) (get_or t (2 * (v / 2)) 0))
 
 -- one turn: the value a of the node is in hand, its sibling's b is read, their join x is stored above them
 module _ (m h v : ℕ) (t t' : List ℕ) (a b x : ℕ) (more : h < m) (own : a ≡ get_or t v 0) (read : b ≡ get_or t (sibling v) 0) (both : x ≡ joined h a b) (put : t' ≡ set t (v / 2) x) where
@@ -102,6 +80,4 @@ module _ (m h v : ℕ) (t t' : List ℕ) (a b x : ℕ) (more : h < m) (own : a �
 
 -- after the last turn
 pub climbed_end : (m h v : ℕ) (t t₁ : List ℕ) → m ≤ h → climbed (m - h) t v h ≡ t₁ → t ≡ t₁
-climbed_end m h v t t₁ l e =
-    let n : m - h ≡ 0 = omega arith in
-    rw n at e
+climbed_end m h v t t₁ l e = grind arith

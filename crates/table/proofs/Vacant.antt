@@ -1,8 +1,5 @@
 -- The cell of a free run. Assumes nothing.
-use mathlib.Core.Path.{◌≡◌, ap, refl}
-use Prim.Native.Nat.{◌+◌, suc, zero, ℕ}
-use lib.Bits.{bit_or}
-use native.Mathlib.Omega.{arith}
+use Rattle.std.proofs.Common.{◌+◌, ◌≡◌, ap, arith, bit_or, refl, suc, zero, ℕ}
 use Rattle.trees.specs.Tree.{vacant}
 use Rattle.table.specs.Table.{cell_of, mask_of, room_of, tag_of}
 

@@ -1,2 +1,3 @@
--- What taking a block ensures.
+-- What taking a block ensures, and the slot that a page offers.
 pub mod Took
+pub mod Offered

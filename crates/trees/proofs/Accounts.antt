@@ -1,15 +1,7 @@
 -- Every byte of the arena is in a live block, in a slot that is not live, left over, or in a free page, and in one of them only. Assumes nothing.
-use mathlib.Core.Path.{◌∙◌, ◌≡◌, ap, refl, subst}
-use mathlib.Core.Logic.{◌≢◌, ⊎_elim}
-use mathlib.Core.Bool.{Bool, ◌||◌, cond, false, not, true}
-use mathlib.Core.Option.{none, some}
-use mathlib.Core.List.{[], ◌∷◌}
-use Prim.Native.Nat.{◌%◌, ◌*◌, ◌+◌, ◌/◌, ◌<◌, ◌^◌, ◌≤◌, ℕ}
-use borrow.Author.Tests.{le-leb, le-ltb, lt-leb, lt-ltb, ne_eqb}
-use lib.Dec.{leb}
-use lib.Pow.{pow_pos}
-use native.Mathlib.Nat.{div-add-mod', div-lt_iff_lt-mul, mod-lt, zero-add, zero-mul}
-use native.Mathlib.Omega.{arith}
+use Rattle.std.proofs.Common.{Bool, [], ◌%◌, ◌*◌, ◌+◌, ◌/◌, ◌<◌, ◌^◌, ◌∙◌, ◌∷◌, ◌≡◌, ◌≢◌, ◌≤◌, ap, arith, cond, div-add-mod', div-lt_iff_lt-mul, false, le-leb, le-ltb, leb, lt-ltb, mod-lt, ne_eqb, not, pow_pos, refl, subst, true, zero-add, zero-mul, ℕ, ⊎_elim}
+use Rattle.std.proofs.Math.Option.{none, some}
+use Rattle.std.proofs.lemmas.Bool.{lt-leb}
 use Rattle.digits.specs.Digits.{bit_at}
 use Rattle.laws.proofs.Counting.{count_of_four}
 use Rattle.laws.proofs.Logic.{and_false, le_or_lt}
@@ -32,11 +24,7 @@ use Rattle.trees.specs.Tree.{Tree, WF, blocks, empty, is_empty, slot_blocks, wf_
 pub any_find : (p : Block → Bool) (L : Live) → any p L ≡ has (find p L)
 unfolding any has find
 any_find p [] = refl
-any_find p (b ∷ L) = go (p b) (any_find p L)
-  where
-    go : (t : Bool) → any p L ≡ has (find p L) → t || any p L ≡ has (cond t (some b) (find p L))
-    go true e = refl
-    go false e = e
+any_find p (b ∷ L) = grind (arith, any_find p L)
 
 -- ---- the size that a page serves
 

@@ -1,12 +1,8 @@
 -- How many bytes of the arena are live, idle, left over and free. Assumes nothing.
-use mathlib.Core.Path.{◌∙◌, ◌≡◌, ap, ap₂, refl}
-use mathlib.Core.Bool.{Bool, ◌&&◌, false, true}
-use mathlib.Core.Option.{Option, none, some}
-use Prim.Native.Nat.{◌%◌, ◌*◌, ◌+◌, ◌-◌, ◌/◌, ◌<◌, ◌^◌, ◌≤◌, ℕ}
-use borrow.Author.Tests.{le-leb, le-ltb, lt-leb, lt-ltb, ltb-true}
-use lib.Dec.{leb, ltb}
-use native.Mathlib.Nat.{add-zero, div-eq_of_lt, div-mul-le_self, mul-add-div, mul_comm, zero-add}
-use native.Mathlib.Omega.{arith}
+use Rattle.std.proofs.Common.{Bool, ◌%◌, ◌&&◌, ◌*◌, ◌+◌, ◌-◌, ◌/◌, ◌<◌, ◌^◌, ◌∙◌, ◌≡◌, ◌≤◌, add-zero, ap, ap₂, arith, div-mul-le_self, false, le-leb, le-ltb, leb, lt-ltb, ltb, ltb-true, mul_comm, refl, true, zero-add, ℕ}
+use Rattle.std.proofs.Math.Nat.{div-eq_of_lt, mul-add-div}
+use Rattle.std.proofs.Math.Option.{Option, none, some}
+use Rattle.std.proofs.lemmas.Bool.{lt-leb}
 use Rattle.laws.proofs.Apart.{block_inside}
 use Rattle.laws.proofs.Counting.{count_all, count_between, count_cong, count_even, count_none, count_not, count_or, count_parts, count_runs, count_shift, total_cong}
 use Rattle.laws.proofs.Logic.{and_right}

@@ -1,15 +1,7 @@
 -- What the replacement of one part of a tree does to its blocks: one is inserted or removed. Assumes nothing.
-use mathlib.Core.Path.{◌∙◌, ◌≡◌, ap, ap₂, refl, subst, sym}
-use mathlib.Core.Logic.{◌⊎◌, inl, inr}
-use mathlib.Core.Bool.{Bool, cond, false, true}
-use mathlib.Core.Option.{Option, none, some}
-use mathlib.Core.List.{[], ◌++◌, ◌∷◌}
-use Prim.Native.Nat.{◌*◌, ◌+◌, ◌<◌, ◌^◌, ◌≤◌, suc, zero, ℕ}
-use borrow.Author.Tests.{eq-eqb, le-leb, lt-leb, ne_eqb}
-use lib.Dec.{leb}
-use lib.Pow.{pow_pos}
-use native.Mathlib.Nat.{add-mul, mul-le-mul_right, pow-suc, suc-mul}
-use native.Mathlib.Omega.{arith}
+use Rattle.std.proofs.Common.{[], ◌*◌, ◌++◌, ◌+◌, ◌<◌, ◌^◌, ◌∙◌, ◌∷◌, ◌≡◌, ◌≤◌, ◌⊎◌, add-mul, ap, ap₂, arith, eq-eqb, false, inl, inr, le-leb, mul-le-mul_right, ne_eqb, pow_pos, pow-suc, refl, subst, suc, sym, tests, true, zero, ℕ}
+use Rattle.std.proofs.Math.Option.{Option, none, some}
+use Rattle.std.proofs.lemmas.Bool.{lt-leb}
 use Rattle.laws.proofs.Lists.{remove_append}
 use Rattle.laws.proofs.Logic.{and_left, and_right, contra, no_some, split}
 use Rattle.meaning.specs.Answers.{insert, remove, starts_at}
@@ -41,11 +33,7 @@ pub insert_left : {mid hi : ℕ} (x : Live) {y : Live} → Within mid hi y → (
 unfolding insert
 insert_left [] within_none b h = refl
 insert_left [] (within_some {b = z} s n e w) b h = rw (le-leb b.start z.start (omega arith)) refl
-insert_left (z ∷ x) {y} w b h = rw (insert_left x w b h) (go (leb b.start z.start))
-  where
-    go : (t : Bool) → cond t (b ∷ z ∷ (x ++ y)) (z ∷ (insert b x ++ y)) ≡ cond t (b ∷ z ∷ x) (z ∷ insert b x) ++ y
-    go true = refl
-    go false = refl
+insert_left (z ∷ x) {y} w b h = grind (arith, insert_left x w b h)
 
 pub insert_right : {lo mid : ℕ} {x : Live} (y : Live) → Within lo mid x → (b : Block) → mid ≤ b.start → insert b (x ++ y) ≡ x ++ insert b y
 unfolding insert
@@ -63,7 +51,7 @@ right_start k d i e = let z = span k d e in omega (arith, add-mul i (2 ^ d) (2 ^
 
 -- where number j of its size lies
 pub part_range : {j : ℕ} {S N : Tree} {d i : ℕ} {T T' : Tree} (h k : ℕ) → Change j S N d i T T' → h ≡ k + d → (i * 2 ^ k ≤ j * 2 ^ k) × (j * 2 ^ k + 2 ^ k ≤ i * 2 ^ k + 2 ^ h)
-part_range {j} {d} {i} h k c e = (mul-le-mul_right (2 ^ k) (change_from c), omega (arith, mul-le-mul_right (2 ^ k) (change_to c), suc-mul j (2 ^ k), add-mul i (2 ^ d) (2 ^ k), span k d e))
+part_range {j} {d} {i} h k c e = grind (arith, tests, change_from c, mul-le-mul_right (2 ^ k) (change_to c), span k d e)
 
 pub change_insert : {j : ℕ} {S N : Tree} {d i h : ℕ} {T T' : Tree} (k : ℕ) → Change j S N d i T T' → WF h T → h ≡ k + d
     → (b : Block) → page_bytes * (j * 2 ^ k) ≤ b.start → b.start < page_bytes * (j * 2 ^ k + 2 ^ k)

@@ -1,14 +1,7 @@
 -- Every allowed set of live blocks is that of a tree, and the blocks of a tree are allowed. Assumes nothing.
-use mathlib.Core.Path.{◌∙◌, ◌≡◌, ap, refl, subst, sym}
-use mathlib.Core.Logic.{⊎_elim}
-use mathlib.Core.Bool.{Bool, ◌&&◌, ◌||◌, cond, false, true}
-use mathlib.Core.List.{[], ◌++◌, ◌∷◌}
-use Prim.Native.Nat.{◌%◌, ◌*◌, ◌+◌, ◌-◌, ◌/◌, ◌<◌, ◌^◌, ◌≤◌, suc, zero, ℕ}
-use borrow.Author.Tests.{le-leb, not-true}
-use lib.Dec.{eqb, leb}
-use lib.Pow.{pow_pos}
-use native.Mathlib.Nat.{add-mul, mul_assoc, mul-one, pow-suc, pow-succ', zero-add, zero-mul}
-use native.Mathlib.Omega.{arith}
+use Rattle.std.proofs.Common.{Bool, [], ◌%◌, ◌*◌, ◌++◌, ◌+◌, ◌-◌, ◌/◌, ◌<◌, ◌^◌, ◌∙◌, ◌∷◌, ◌≡◌, ◌≤◌, add-mul, ap, arith, cond, eqb, false, mul_assoc, mul-one, pow_pos, pow-suc, refl, subst, suc, sym, true, zero, zero-add, zero-mul, ℕ, ⊎_elim}
+use Rattle.std.proofs.Math.Nat.{pow-succ'}
+use Rattle.std.proofs.lemmas.Bool.{not-true}
 use Rattle.digits.proofs.Digits.{bit_zero, set_lt}
 use Rattle.digits.specs.Digits.{bit_at}
 use Rattle.laws.proofs.Allowing.{block_size, one_before}
@@ -122,16 +115,11 @@ serves_at {i = i} k s q (right {d = d} l {r = r} c) (wf_pair {h = h} u v) e lo h
 clear_before : {b : Block} {L : Live} → BeforeAll b L → clear L b ≡ true
 unfolding clear every
 clear_before before_none = refl
-clear_before {b} (before_some {b' = y} h r) = rw (le-leb (ends b) y.start h.apart) (go (leb (ends y) b.start) (clear_before r))
-  where
-    go : (t : Bool) {u : Bool} → u ≡ true → (t || true) && u ≡ true
-    go true e = e
-    go false e = e
+clear_before {b} (before_some {b' = y} h r) = grind (arith, clear_before r)
 
 insert_before : {b : Block} {L : Live} → b.start < ends b → BeforeAll b L → insert b L ≡ b ∷ L
 unfolding insert
-insert_before n before_none = refl
-insert_before {b} n (before_some {b' = y} h r) = rw (le-leb b.start y.start (omega (arith, h.apart))) refl
+insert_before p h = grind arith
 
 insert_large : {m : ℕ} {T : Tree} → WF m T → (k j : ℕ) → k ≤ m → j < 2 ^ (m - k) → clear (blocks m 0 T) (large k j) ≡ true → After m T (large k j)
 unfolding blocks insert

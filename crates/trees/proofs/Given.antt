@@ -1,18 +1,11 @@
 -- Give back and which on a tree: the block at an offset, and the tree without it. Assumes nothing.
-use mathlib.Core.Path.{◌∙◌, ◌≡◌, ap, refl, subst, sym}
-use mathlib.Core.Logic.{◌≢◌, ◌⊎◌, inl, inr, ⊎_elim}
-use mathlib.Core.Bool.{Bool, cond, false, not, true}
-use mathlib.Core.Option.{none, some}
-use mathlib.Core.List.{◌∷◌}
-use Prim.Native.Nat.{◌%◌, ◌*◌, ◌+◌, ◌/◌, ◌<◌, ◌^◌, ◌≤◌, suc, zero, ℕ}
-use borrow.Author.Tests.{eq-eqb, eqb-true, leb-true, ltb-true, ne_eqb}
-use lib.Dec.{eqb, leb, ltb}
-use native.Mathlib.Nat.{add-mul, add-suc, add-zero, mul_assoc, mul-one, pow-suc, pow-succ', suc-add, zero-add, zero-mul}
-use native.Mathlib.Omega.{arith}
+use Rattle.std.proofs.Common.{Bool, ◌*◌, ◌+◌, ◌/◌, ◌<◌, ◌^◌, ◌∙◌, ◌≡◌, ◌≢◌, ◌≤◌, ◌⊎◌, add-mul, add-suc, ap, arith, cond, eq-eqb, eqb-true, false, inl, inr, leb, leb-true, ltb, ltb-true, mul_assoc, mul-one, not, pow-suc, refl, subst, suc, suc-add, sym, true, zero, zero-add, zero-mul, ℕ, ⊎_elim}
+use Rattle.std.proofs.Math.Nat.{pow-succ'}
+use Rattle.std.proofs.Math.Option.{none, some}
 use Rattle.digits.specs.Digits.{bit_at}
 use Rattle.laws.proofs.Allowing.{apart_of, clear_rest}
 use Rattle.laws.proofs.Lists.{find_append}
-use Rattle.laws.proofs.Logic.{and_left, and_right, le_or_lt, or_else_none, split}
+use Rattle.laws.proofs.Logic.{and_left, and_right, le_or_lt, or_else_none}
 use Rattle.laws.proofs.Sizes.{slot_in, small_pos}
 use Rattle.meaning.specs.Answers.{clear, holds, insert, remove, starts_at}
 use Rattle.meaning.specs.Blocks.{Block, Live, ends, page_bytes, size_count, slot, slots}
@@ -29,21 +22,12 @@ use Rattle.trees.specs.Tree.{Tree, WF, blocks, cut, empty, leaf_of, slot_blocks,
 pub remove_clear : {lo hi : ℕ} {L : Live} → Within lo hi L → (b : Block) → b.start < ends b → clear L b ≡ true → remove b.start L ≡ L
 unfolding remove starts_at
 remove_clear within_none b n c = refl
-remove_clear (within_some {b = x} {L = L} s m e w) b n c =
-    let ne : x.start ≢ b.start = λ z. ⊎_elim (λ (a : ends x ≤ b.start). omega arith) (λ (a : ends b ≤ x.start). omega arith) (apart_of b x L c) in
-    rw (ne_eqb x.start b.start ne) (ap (λ (y : Live). x ∷ y) (remove_clear w b n (clear_rest b x L c)))
+remove_clear (within_some {b = x} {L = L} s m e w) b n c = grind (arith, apart_of b x L c, remove_clear w b n (clear_rest b x L c))
 
 pub remove_insert : {lo hi : ℕ} {L : Live} → Within lo hi L → (b : Block) → b.start < ends b → clear L b ≡ true → remove b.start (insert b L) ≡ L
 unfolding remove starts_at insert
 remove_insert within_none b n c = rw (eq-eqb b.start b.start refl) refl
-remove_insert (within_some {b = x} {L = L} s m e w) b n c = go (leb b.start x.start) (remove_insert w b n (clear_rest b x L c))
-  where
-    ne : x.start ≢ b.start
-    ne z = ⊎_elim (λ (a : ends x ≤ b.start). omega arith) (λ (a : ends b ≤ x.start). omega arith) (apart_of b x L c)
-
-    go : (t : Bool) → remove b.start (insert b L) ≡ L → remove b.start (cond t (b ∷ x ∷ L) (x ∷ insert b L)) ≡ x ∷ L
-    go true ih = rw (eq-eqb b.start b.start refl, ne_eqb x.start b.start ne) (ap (λ (y : Live). x ∷ y) (remove_clear w b n (clear_rest b x L c)))
-    go false ih = rw (ne_eqb x.start b.start ne) (ap (λ (y : Live). x ∷ y) ih)
+remove_insert (within_some {b = x} {L = L} s m e w) b n c = grind (arith, remove_insert w b n (clear_rest b x L c), apart_of b x L c, remove_clear w b n (clear_rest b x L c))
 
 -- giving a slot back clears its digit
 pub slots_remove : (c q bits t : ℕ) → t < slots c → bit_at t bits ≡ false → slot_blocks c q 0 (slots c) bits ≡ remove (slot c q t).start (slot_blocks c q 0 (slots c) (bits + 2 ^ t))
@@ -69,11 +53,7 @@ near_holds o b n e = (leb-true b.start o (and_left (leb b.start o) (ltb o (ends 
 pub find_outside : {lo hi : ℕ} {L : Live} (p : Block → Bool) (o : ℕ) → Near o p → Within lo hi L → (o < lo) ⊎ (hi ≤ o) → find p L ≡ none
 unfolding find Near
 find_outside p o near within_none h = refl
-find_outside p o near (within_some {b = b} {L = L} s n e w) h = go (split (p b)) (find_outside p o near w h)
-  where
-    go : (p b ≡ true) ⊎ (p b ≡ false) → find p L ≡ none → cond (p b) (some b) (find p L) ≡ none
-    go (inl t) ih = let z = near b n t in absurd (⊎_elim (λ (a : o < _). omega arith) (λ (a : _ ≤ o). omega arith) h)
-    go (inr t) ih = rw t ih
+find_outside p o near (within_some {b = b} {L = L} s n e w) h = grind (arith, find_outside p o near w h)
 
 pub find_at : {j : ℕ} {S N : Tree} {d i h : ℕ} {T T' : Tree} (p : Block → Bool) (o : ℕ) → Near o p → (k : ℕ) → Change j S N d i T T' → WF h T → h ≡ k + d
     → page_bytes * (j * 2 ^ k) ≤ o → o < page_bytes * (j * 2 ^ k + 2 ^ k) → find p (blocks h (i * 2 ^ k) T) ≡ find p (blocks k (j * 2 ^ k) S)
@@ -95,28 +75,14 @@ find_at {i = i} p o near k (right {d = d} l {r = r} c) (wf_pair {h = h} u v) e l
 pub slots_find_none : (p : Block → Bool) (c q n i bits : ℕ) → ((u : ℕ) → i ≤ u → u < i + n → p (slot c q u) ≡ false) → find p (slot_blocks c q i n bits) ≡ none
 unfolding slot_blocks find
 slots_find_none p c q zero i bits h = refl
-slots_find_none p c q (suc n) i bits h = go (eqb (bits % 2) 1) (slots_find_none p c q n (suc i) (bits / 2) (λ u a b. h u (omega arith) (omega arith)))
-  where
-    go : (t : Bool) → find p (slot_blocks c q (suc i) n (bits / 2)) ≡ none → find p (cond t (slot c q i ∷ slot_blocks c q (suc i) n (bits / 2)) (slot_blocks c q (suc i) n (bits / 2))) ≡ none
-    go true ih = rw (h i (omega arith) (omega arith)) ih
-    go false ih = ih
+slots_find_none p c q (suc n) i bits h = grind (arith, slots_find_none p c q n (suc i) (bits / 2) (λ u a b. h u (omega arith) (omega arith)))
 
 pub slots_find : (p : Block → Bool) (c q n i bits t : ℕ) → t < n → p (slot c q (i + t)) ≡ true → ((u : ℕ) → u ≢ i + t → p (slot c q u) ≡ false)
     → find p (slot_blocks c q i n bits) ≡ cond (bit_at t bits) (some (slot c q (i + t))) none
 unfolding slot_blocks find bit_at
 slots_find p c q zero i bits t l y z = absurd (omega arith)
-slots_find p c q (suc n) i bits zero l y z = rw (add-zero i) (go (eqb (bits % 2) 1) (slots_find_none p c q n (suc i) (bits / 2) (λ u a b. z u (omega arith))))
-  where
-    go : (t : Bool) → find p (slot_blocks c q (suc i) n (bits / 2)) ≡ none → find p (cond t (slot c q i ∷ slot_blocks c q (suc i) n (bits / 2)) (slot_blocks c q (suc i) n (bits / 2))) ≡ cond t (some (slot c q i)) none
-    go true ih = rw (rw (add-zero i) at y) refl
-    go false ih = ih
-slots_find p c q (suc n) i bits (suc t) l y z =
-    rw (add-suc i t) (go (eqb (bits % 2) 1) (rw (suc-add i t) at (slots_find p c q n (suc i) (bits / 2) t (omega arith) (rw (suc-add i t, ← add-suc i t) y) (λ u a. z u (omega arith)))))
-  where
-    go : (b : Bool) → find p (slot_blocks c q (suc i) n (bits / 2)) ≡ cond (bit_at t (bits / 2)) (some (slot c q (suc (i + t)))) none
-        → find p (cond b (slot c q i ∷ slot_blocks c q (suc i) n (bits / 2)) (slot_blocks c q (suc i) n (bits / 2))) ≡ cond (bit_at t (bits / 2)) (some (slot c q (suc (i + t)))) none
-    go true ih = rw (z i (omega arith)) ih
-    go false ih = ih
+slots_find p c q (suc n) i bits zero l y z = grind (arith, slots_find_none p c q n (suc i) (bits / 2) (λ u a b. z u (omega arith)))
+slots_find p c q (suc n) i bits (suc t) l y z = grind (arith, slots_find p c q n (suc i) (bits / 2) t (omega arith) (rw (suc-add i t, ← add-suc i t) y) (λ u a. z u (omega arith)))
 
 -- ---- the part of the tree that decides about byte o
 

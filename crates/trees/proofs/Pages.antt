@@ -1,14 +1,7 @@
 -- The leftmost page of a tree that passes a test is the lowest one of its blocks. Assumes nothing.
-use mathlib.Core.Path.{◌∙◌, ◌≡◌, ap, ap₂, refl}
-use mathlib.Core.Logic.{◌≢◌, ◌⊎◌, inl, inr}
-use mathlib.Core.Bool.{Bool, ◌&&◌, ◌||◌, false, true}
-use mathlib.Core.Option.{Option}
-use mathlib.Core.List.{[], ◌++◌, ◌∷◌}
-use Prim.Native.Nat.{◌*◌, ◌+◌, ◌<◌, ◌^◌, ◌≤◌, suc, ℕ}
-use borrow.Author.Tests.{eqb-false, eqb-true, ne_eqb}
-use lib.Dec.{eqb}
-use native.Mathlib.Nat.{pow-suc, zero-add}
-use native.Mathlib.Omega.{arith}
+use Rattle.std.proofs.Common.{Bool, [], ◌&&◌, ◌*◌, ◌++◌, ◌+◌, ◌<◌, ◌^◌, ◌||◌, ◌∙◌, ◌∷◌, ◌≡◌, ◌≢◌, ◌≤◌, ◌⊎◌, ap, ap₂, arith, eqb, eqb-true, false, inl, inr, ne_eqb, pow-suc, refl, suc, true, zero-add, ℕ}
+use Rattle.std.proofs.Math.Option.{Option}
+use Rattle.std.proofs.lemmas.Bool.{eqb-false}
 use Rattle.laws.proofs.Lists.{any_append}
 use Rattle.laws.proofs.Logic.{or_false, split}
 use Rattle.laws.proofs.Searches.{lowest_cong, lowest_isnt, lowest_parts}

@@ -1,15 +1,7 @@
 -- A page of a tree: what is found there, and what changes when a slot of it is taken. Assumes nothing.
-use mathlib.Core.Path.{◌∙◌, ◌≡◌, ap, refl, subst, sym}
-use mathlib.Core.Logic.{◌⊎◌, inl, inr}
-use mathlib.Core.Bool.{Bool, cond, false, true}
-use mathlib.Core.Option.{Option, none, some}
-use mathlib.Core.List.{[]}
-use Prim.Native.Nat.{◌*◌, ◌+◌, ◌<◌, ◌^◌, ◌≤◌, suc, zero, ℕ}
-use borrow.Author.Tests.{eqb-true, not-true}
-use lib.Dec.{eqb}
-use lib.Pow.{pow_mono}
-use native.Mathlib.Nat.{mul-one, zero-add}
-use native.Mathlib.Omega.{arith}
+use Rattle.std.proofs.Common.{Bool, [], ◌*◌, ◌+◌, ◌<◌, ◌^◌, ◌∙◌, ◌≡◌, ◌≤◌, ◌⊎◌, ap, arith, cond, eqb, eqb-true, false, inl, inr, mul-one, pow_mono, refl, subst, suc, sym, true, zero, zero-add, ℕ}
+use Rattle.std.proofs.Math.Option.{Option, none, some}
+use Rattle.std.proofs.lemmas.Bool.{not-true}
 use Rattle.digits.proofs.Digits.{set_lt}
 use Rattle.digits.specs.Digits.{bit_at}
 use Rattle.laws.proofs.Logic.{and_left, and_right, contra, no_some, split}

@@ -1,15 +1,8 @@
 -- A block found by its start, and its give back as the replacement of one part of the tree. Assumes nothing.
-use mathlib.Core.Path.{◌∙◌, ◌≡◌, ap, refl, subst, sym}
-use mathlib.Core.Logic.{◌≢◌, ◌⊎◌, inl, inr, ⊎_elim}
-use mathlib.Core.Bool.{Bool, cond, false, true}
-use mathlib.Core.Option.{none, some}
-use mathlib.Core.List.{[], ◌∷◌}
-use Prim.Native.Nat.{◌%◌, ◌*◌, ◌+◌, ◌-◌, ◌/◌, ◌<◌, ◌^◌, ◌≤◌, suc, zero, ℕ}
-use borrow.Author.Tests.{eq-eqb, ne_eqb}
-use lib.Dec.{eqb}
-use lib.Pow.{pow-lt, pow_pos}
-use native.Mathlib.Nat.{mul-div_cancel, mul-one, zero-add, zero-mul}
-use native.Mathlib.Omega.{arith}
+use Rattle.std.proofs.Common.{Bool, [], ◌*◌, ◌+◌, ◌-◌, ◌/◌, ◌<◌, ◌^◌, ◌∙◌, ◌∷◌, ◌≡◌, ◌≢◌, ◌≤◌, ◌⊎◌, ap, arith, cond, eq-eqb, false, inl, inr, mul-div_cancel, mul-one, ne_eqb, pow_pos, refl, subst, suc, sym, true, zero, zero-add, zero-mul, ℕ, ⊎_elim}
+use Rattle.std.proofs.Math.Option.{none, some}
+use Rattle.std.proofs.Math.Pow.{pow-lt}
+use Rattle.std.proofs.lemmas.Bool.{cases_order}
 use Rattle.digits.proofs.Digits.{bit_le, less_same}
 use Rattle.digits.specs.Digits.{bit_at}
 use Rattle.laws.proofs.Logic.{le_or_lt, no_some, split}
@@ -30,23 +23,13 @@ use Rattle.trees.specs.Tree.{Tree, WF, blocks, cut, empty, leaf_of, slot_blocks,
 -- a search of one block finds that block
 find_one : (p : Block → Bool) (a : Block) {b : Block} → find p (a ∷ []) ≡ some b → a ≡ b
 unfolding find
-find_one p a {b} f = go (split (p a))
-  where
-    go : (p a ≡ true) ⊎ (p a ≡ false) → a ≡ b
-    go (inl t) = let g : some a ≡ some b = rw t at f in cc
-    go (inr t) = no_some (rw t at f)
+find_one p a {b} f = grind arith
 
 -- a block found in a page has the page's size
 found_size : (p : Block → Bool) (c q n i bits : ℕ) {b : Block} → find p (slot_blocks c q i n bits) ≡ some b → b.size ≡ small c
 unfolding slot_blocks find
 found_size p c q zero i bits f = no_some f
-found_size p c q (suc n) i bits {b} f = go (split (eqb (bits % 2) 1)) (split (p (slot c q i))) (found_size p c q n (suc i) (bits / 2))
-  where
-    go : (eqb (bits % 2) 1 ≡ true) ⊎ (eqb (bits % 2) 1 ≡ false) → (p (slot c q i) ≡ true) ⊎ (p (slot c q i) ≡ false)
-        → (find p (slot_blocks c q (suc i) n (bits / 2)) ≡ some b → b.size ≡ small c) → b.size ≡ small c
-    go (inl x) (inl y) ih = let g : some (slot c q i) ≡ some b = rw y at (rw x at f) in let e : slot c q i ≡ b = cc in sym (ap (λ (z : Block). z.size) e)
-    go (inl x) (inr y) ih = ih (rw y at (rw x at f))
-    go (inr x) y ih = ih (rw x at f)
+found_size p c q (suc n) i bits {b} f = grind (arith, found_size p c q n (suc i) (bits / 2))
 
 -- the part of the tree in which the block that starts at o is found
 record Seen (m o : ℕ) (T : Tree) (b : Block) : Type 0 where
@@ -71,7 +54,7 @@ spot_change {T = T} s N = subst (λ x. Change s.j s.at.old N s.d x T (s.at.new N
 
 -- the power says the exponent
 pow_same : (i j : ℕ) → 2 ^ i ≡ 2 ^ j → i ≡ j
-pow_same i j e = ⊎_elim (λ (g : i ≤ j). ⊎_elim (λ (f : j ≤ i). omega arith) (λ (f : i < j). absurd (omega (arith, pow-lt f))) (le_or_lt j i)) (λ (g : j < i). absurd (omega (arith, pow-lt g))) (le_or_lt i j)
+pow_same i j e = ⊎_elim (λ q. q) (⊎_elim (λ (l : i < j). absurd (omega (arith, pow-lt l))) (λ (l : j < i). absurd (omega (arith, pow-lt l)))) (cases_order i j)
 
 -- a product says its other factor
 product_same : (n i j : ℕ) → 0 < n → i * n ≡ j * n → i ≡ j

@@ -1,13 +1,8 @@
 -- The leftmost free run of a tree is the lowest one of its blocks. Assumes nothing.
-use mathlib.Core.Path.{◌∙◌, ◌≡◌, ap, ap₂, refl, subst}
-use mathlib.Core.Logic.{inl, inr}
-use mathlib.Core.List.{[], ◌++◌}
-use Prim.Native.Nat.{◌*◌, ◌+◌, ◌-◌, ◌<◌, ◌^◌, ◌≤◌, suc, zero, ℕ}
-use lib.Pow.{pow-add, pow_pos}
-use native.Mathlib.Nat.{add_comm, add-mul, mul-le-mul_right, pow-suc, suc-mul, zero-mul}
-use native.Mathlib.Omega.{arith}
+use Rattle.std.proofs.Common.{[], ◌*◌, ◌++◌, ◌+◌, ◌-◌, ◌<◌, ◌^◌, ◌∙◌, ◌≡◌, ◌≤◌, add_comm, add-mul, ap, ap₂, arith, inl, inr, mul-le-mul_right, pow-add, pow_pos, refl, suc, suc-mul, zero, ℕ}
+use Rattle.std.proofs.Math.Bool.{and-true}
+use Rattle.std.proofs.Math.Nat.{two-pow-succ}
 use Rattle.laws.proofs.Lists.{clear_append}
-use Rattle.laws.proofs.Logic.{and_true}
 use Rattle.laws.proofs.Searches.{lowest_cong, lowest_isnt, lowest_parts}
 use Rattle.meaning.specs.Answers.{clear}
 use Rattle.meaning.specs.Blocks.{Block, Live, ends, large, pages}
@@ -22,12 +17,9 @@ range s i j n a b = (mul-le-mul_right s a, omega (arith, mul-le-mul_right s b, s
 pub span : {h : ℕ} (k d : ℕ) → h ≡ k + d → 2 ^ h ≡ 2 ^ d * 2 ^ k
 span k d e = ap (λ x. 2 ^ x) (e ∙ add_comm k d) ∙ pow-add 2 d k
 
-two : (d : ℕ) → 2 ^ suc d ≡ 2 ^ d + 2 ^ d
-two d = omega (arith, pow-suc 2 d)
-
 -- of two trees side by side, each alone decides what is free in its part
 pub clear_left : {mid hi : ℕ} (x : Live) {y : Live} → Within mid hi y → (b : Block) → ends b ≤ mid → clear (x ++ y) b ≡ clear x b
-clear_left x {y} w b e = rw (clear_append x y b, clear_outside w b (inr e)) (and_true (clear x b))
+clear_left x {y} w b e = rw (clear_append x y b, clear_outside w b (inr e)) (and-true (clear x b))
 
 pub clear_right : {lo mid : ℕ} {x : Live} (y : Live) → Within lo mid x → (b : Block) → mid ≤ b.start → clear (x ++ y) b ≡ clear y b
 clear_right {x = x} y w b e = rw (clear_append x y b, clear_outside w b (inl e)) refl
@@ -57,12 +49,9 @@ runs (wf_pair {h = h} {l = l} {r = r} u v) k (suc d) i e =
     (λ j a b. rw base (clear_right (blocks h (q + 2 ^ h) r) (blocks_within u q) (large k j) (omega (arith, range (2 ^ k) (i + 2 ^ d) j (2 ^ d) a b))))
     ∙ runs v k d (i + 2 ^ d) e'
     in
-    rw (two d) (lowest_parts _ i (2 ^ d) (2 ^ d) ∙ ap₂ or_else left right)
+    rw (two-pow-succ d) (lowest_parts _ i (2 ^ d) (2 ^ d) ∙ ap₂ or_else left right)
 
 -- for the whole arena
 pub largest_first : {m : ℕ} {T : Tree} → WF m T → (k d : ℕ) → m ≡ k + d → least (λ j. clear (blocks m 0 T) (large k j)) (2 ^ (m - k)) ≡ first_run d 0 T
 unfolding least
-largest_first {m} {T} w k d e =
-    let z : m - k ≡ d = omega arith in
-    let zero_base : 0 * 2 ^ k ≡ 0 = zero-mul (2 ^ k) in
-    rw z (subst (λ (q : ℕ). lowest (λ j. clear (blocks m q T) (large k j)) 0 (2 ^ d) ≡ first_run d 0 T) zero_base (runs w k d 0 e))
+largest_first {m} {T} w k d e = grind (arith, runs w k d 0 e)

@@ -1,15 +1,8 @@
 -- A page that is cut into slots: which are live, and what it serves. Assumes nothing.
-use mathlib.Core.Path.{◌∙◌, ◌≡◌, ap, refl, sym}
-use mathlib.Core.Logic.{◌≢◌, ◌⊎◌, inl, inr}
-use mathlib.Core.Bool.{Bool, cond, false, not, true}
-use mathlib.Core.List.{[], ◌∷◌}
-use Prim.Native.Nat.{◌%◌, ◌*◌, ◌+◌, ◌/◌, ◌<◌, ◌^◌, ◌≤◌, suc, zero, ℕ}
-use borrow.Author.Tests.{eq-eqb, eqb-false, le-leb, lt-leb, ne_eqb}
-use lib.Dec.{eqb}
-use native.Mathlib.Nat.{add-mul, add-suc, add-zero, pow-suc, suc-add, suc-mul}
-use native.Mathlib.Omega.{arith}
+use Rattle.std.proofs.Common.{Bool, [], ◌%◌, ◌*◌, ◌+◌, ◌/◌, ◌<◌, ◌^◌, ◌∙◌, ◌∷◌, ◌≡◌, ◌≢◌, ◌≤◌, ◌⊎◌, add-mul, add-suc, add-zero, arith, cond, eqb, false, inl, inr, le-leb, ne_eqb, not, refl, suc, suc-add, suc-mul, sym, tests, true, zero, ℕ}
+use Rattle.std.proofs.lemmas.Bool.{eqb-false}
 use Rattle.digits.specs.Digits.{bit_at}
-use Rattle.laws.proofs.Logic.{and_false, split}
+use Rattle.laws.proofs.Logic.{and_false}
 use Rattle.laws.proofs.Sizes.{slot_in, small_pos}
 use Rattle.meaning.specs.Answers.{clear, insert, serves}
 use Rattle.meaning.specs.Blocks.{Block, Live, ends, page_bytes, slot, slots, small}
@@ -60,15 +53,7 @@ slots_insert c q (suc n) i bits zero f h z =
     let odd : (bits + 1) % 2 ≡ 1 = omega arith in
     let rest : (bits + 1) / 2 ≡ bits / 2 = omega arith in
     rw (add-zero i, z, odd, rest) (sym (insert_left [] (slots_from c q (suc i) n (bits / 2) (omega arith)) (slot c q i) (omega (arith, suc-mul i (small c)))))
-slots_insert c q (suc n) i bits (suc t) f h z =
-    let odd : (bits + 2 ^ suc t) % 2 ≡ bits % 2 = omega (arith, pow-suc 2 t) in
-    let rest : (bits + 2 ^ suc t) / 2 ≡ bits / 2 + 2 ^ t = omega (arith, pow-suc 2 t) in
-    rw (odd, rest, add-suc i t) (go (eqb (bits % 2) 1) (rw (suc-add i t) at (slots_insert c q n (suc i) (bits / 2) t (omega arith) (omega arith) z)))
-  where
-    go : (b : Bool) {new : Live} → new ≡ insert (slot c q (suc (i + t))) (slot_blocks c q (suc i) n (bits / 2))
-        → cond b (slot c q i ∷ new) new ≡ insert (slot c q (suc (i + t))) (cond b (slot c q i ∷ slot_blocks c q (suc i) n (bits / 2)) (slot_blocks c q (suc i) n (bits / 2)))
-    go true ih = rw (lt-leb (slot c q (suc (i + t))).start (slot c q i).start (omega (arith, small_pos c, suc-mul (i + t) (small c), add-mul i t (small c)))) (ap (λ (x : Live). slot c q i ∷ x) ih)
-    go false ih = ih
+slots_insert c q (suc n) i bits (suc t) f h z = grind (arith, tests, suc-add i t, slots_insert c q n (suc i) (bits / 2) t (omega arith) (omega arith) z, small_pos c)
 
 -- ---- a page that serves a size
 
@@ -81,23 +66,9 @@ serves_outside (within_some {b = b} a n e w) s q (inr o) = rw (ne_eqb (b.start /
 pub slots_serve_not : (c q n i bits s : ℕ) → eqb (small c) s ≡ false → serves (slot_blocks c q i n bits) s q ≡ false
 unfolding slot_blocks serves any
 slots_serve_not c q zero i bits s h = refl
-slots_serve_not c q (suc n) i bits s h = go (eqb (bits % 2) 1) _ (slots_serve_not c q n (suc i) (bits / 2) s h)
-  where
-    go : (b : Bool) (L : Live) → serves L s q ≡ false → serves (cond b (slot c q i ∷ L) L) s q ≡ false
-    go true L ih = rw h ih
-    go false L ih = ih
+slots_serve_not c q (suc n) i bits s h = grind (arith, slots_serve_not c q n (suc i) (bits / 2) s h)
 
 pub slots_serve : (c q n i bits : ℕ) → i + n ≤ slots c → 0 < bits → bits < 2 ^ n → serves (slot_blocks c q i n bits) (small c) q ≡ true
 unfolding slot_blocks serves any
 slots_serve c q zero i bits f p l = absurd (omega arith)
-slots_serve c q (suc n) i bits f p l = go (split (eqb (bits % 2) 1)) (slots_serve c q n (suc i) (bits / 2) (omega arith))
-  where
-    rest : Live
-    rest = slot_blocks c q (suc i) n (bits / 2)
-
-    page : (slot c q i).start / page_bytes ≡ q
-    page = omega (arith, small_pos c, slot_in c i (omega arith))
-
-    go : (eqb (bits % 2) 1 ≡ true) ⊎ (eqb (bits % 2) 1 ≡ false) → (0 < bits / 2 → bits / 2 < 2 ^ n → serves rest (small c) q ≡ true) → serves (cond (eqb (bits % 2) 1) (slot c q i ∷ rest) rest) (small c) q ≡ true
-    go (inl t) ih = rw (t, eq-eqb (small c) (small c) refl, eq-eqb ((slot c q i).start / page_bytes) q page) refl
-    go (inr t) ih = let z : bits % 2 ≢ 1 = eqb-false (bits % 2) 1 t in rw t (ih (omega arith) (omega (arith, pow-suc 2 n)))
+slots_serve c q (suc n) i bits f p l = grind (arith, slots_serve c q n (suc i) (bits / 2) (omega arith), slot_in c i (omega arith))

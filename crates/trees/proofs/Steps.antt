@@ -1,14 +1,6 @@
 -- A take or a give back as the replacement of one part of the tree. Assumes nothing.
-use mathlib.Core.Path.{◌∙◌, ◌≡◌, ap, ap₂, refl, sym}
-use mathlib.Core.Logic.{⊎_elim}
-use mathlib.Core.Bool.{false, true}
-use mathlib.Core.List.{[]}
-use Prim.Native.Nat.{◌*◌, ◌+◌, ◌<◌, ◌^◌, ℕ}
-use borrow.Author.Tests.{eqb-false, eqb-true, ne_eqb, not-true}
-use lib.Dec.{eqb}
-use lib.Pow.{pow_pos}
-use native.Mathlib.Nat.{mul-one, zero-add, zero-mul}
-use native.Mathlib.Omega.{arith}
+use Rattle.std.proofs.Common.{[], ◌*◌, ◌+◌, ◌<◌, ◌^◌, ◌∙◌, ◌≡◌, ap, ap₂, arith, eqb, eqb-true, false, mul-one, ne_eqb, pow_pos, refl, sym, true, zero-add, zero-mul, ℕ, ⊎_elim}
+use Rattle.std.proofs.lemmas.Bool.{eqb-false, not-true}
 use Rattle.digits.proofs.Digits.{bit_zero}
 use Rattle.digits.specs.Digits.{bit_at}
 use Rattle.laws.proofs.Logic.{and_left, and_right, contra, split}

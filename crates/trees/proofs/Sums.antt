@@ -1,16 +1,8 @@
 -- The figures of a tree are those of its blocks. Assumes nothing.
-use mathlib.Core.Path.{◌∙◌, ◌≡◌, ap, ap₂, refl, sym}
-use mathlib.Core.Logic.{◌⊎◌, inl, inr, ⊎_elim}
-use mathlib.Core.Bool.{Bool, ◌&&◌, ◌||◌, cond, false, not, true}
-use mathlib.Core.Option.{none, some}
-use mathlib.Core.List.{[], ◌++◌, ◌∷◌}
-use Prim.Native.Nat.{◌*◌, ◌+◌, ◌-◌, ◌<◌, ◌^◌, ◌≤◌, max, suc, zero, ℕ}
-use borrow.Author.Tests.{le-ltb, lt-ltb, ltb-false, ltb-true}
-use lib.Dec.{ltb}
-use native.Mathlib.Nat.{add_assoc, pow-suc, zero-add}
-use native.Mathlib.Omega.{arith}
+use Rattle.std.proofs.Common.{Bool, [], ◌&&◌, ◌*◌, ◌++◌, ◌+◌, ◌-◌, ◌<◌, ◌^◌, ◌||◌, ◌∙◌, ◌∷◌, ◌≡◌, ◌≤◌, ◌⊎◌, add_assoc, ap, ap₂, arith, cond, false, inl, inr, le-ltb, lt-ltb, ltb, max, not, pow-suc, refl, suc, sym, true, zero, zero-add, ℕ, ⊎_elim}
+use Rattle.std.proofs.Math.Option.{none, some}
 use Rattle.laws.proofs.Counting.{count_all, count_cong, count_parts}
-use Rattle.laws.proofs.Logic.{and_left, contra, has_bind, has_or, le_or_lt, split}
+use Rattle.laws.proofs.Logic.{and_left, contra, has_bind, has_or, split}
 use Rattle.meaning.specs.Answers.{clear, free, held_bytes, large_place, live_bytes, room_up_to}
 use Rattle.meaning.specs.Blocks.{Live, large, page_bytes, pages, size_count, slots}
 use Rattle.meaning.specs.Search.{count, every, has, least}
@@ -64,10 +56,7 @@ tree_held w = ap (λ x. page_bytes * x) (used_pages w 0)
 
 pub best_empty : {h : ℕ} {T : Tree} → WF h T → is_empty T ≡ true → best h T ≡ suc h
 unfolding best is_empty
-best_empty wf_empty e = refl
-best_empty (wf_cut a b c) e = contra e refl
-best_empty wf_whole e = contra e refl
-best_empty (wf_pair u v) e = rw e refl
+best_empty w e = grind arith
 
 pub best_full : {h : ℕ} {T : Tree} → WF h T → is_empty T ≡ false → best h T ≤ h
 unfolding best is_empty
@@ -81,12 +70,7 @@ best_full (wf_pair {h = h} {l = l} {r = r} u v) e = rw e (omega (arith, top u (s
     top w (inr t) f = omega (arith, f t)
 
 or_ltb : (k a b : ℕ) → ltb k a || ltb k b ≡ ltb k (max a b)
-or_ltb k a b = go (split (ltb k a)) (split (ltb k b))
-  where
-    go : (ltb k a ≡ true) ⊎ (ltb k a ≡ false) → (ltb k b ≡ true) ⊎ (ltb k b ≡ false) → ltb k a || ltb k b ≡ ltb k (max a b)
-    go (inl t) u = rw t (sym (lt-ltb k (max a b) (omega (arith, ltb-true k a t))))
-    go (inr t) (inl u) = rw (t, u) (sym (lt-ltb k (max a b) (omega (arith, ltb-true k b u))))
-    go (inr t) (inr u) = rw (t, u) (sym (le-ltb k (max a b) (omega (arith, ltb-false k a t, ltb-false k b u))))
+or_ltb k a b = grind arith
 
 pub best_run : {h : ℕ} {T : Tree} → WF h T → (k d i : ℕ) → h ≡ k + d → has (first_run d i T) ≡ ltb k (best h T)
 unfolding first_run best
@@ -108,16 +92,11 @@ best_run (wf_pair {h = h} {l = l} {r = r} u v) k (suc d) i e =
 
 room_zero : (b : ℕ) → b ≤ 1 → cond (ltb 0 b) page_bytes 0 ≡ room_bytes b
 unfolding room_bytes
-room_zero zero h = refl
-room_zero (suc zero) h = refl
-room_zero (suc (suc b)) h = absurd (omega arith)
+room_zero b l = grind arith
 
 room_suc : (b k less : ℕ) → b ≤ suc (suc k) → (b ≤ suc k → less ≡ room_bytes b) → cond (ltb (suc k) b) (page_bytes * 2 ^ suc k) less ≡ room_bytes b
 unfolding room_bytes
-room_suc b k less h f = ⊎_elim
-    (λ (l : b ≤ suc k). rw (le-ltb (suc k) b l) (f l))
-    (λ (l : suc k < b). let e : b ≡ suc (suc k) = omega arith in rw (e, lt-ltb (suc k) (suc (suc k)) (omega arith)) refl)
-    (le_or_lt b (suc k))
+room_suc b k less h f = grind arith
 
 has_place : {m : ℕ} {T : Tree} → WF m T → (k : ℕ) → k ≤ m → has (large_place m (blocks m 0 T) k) ≡ ltb k (best m T)
 unfolding large_place

@@ -1,14 +1,5 @@
 -- A set of live blocks is that of one tree only. Assumes nothing.
-use mathlib.Core.Path.{◌∙◌, ◌≡◌, ap, ap₂, refl, sym}
-use mathlib.Core.Logic.{⊎_elim}
-use mathlib.Core.Bool.{false, true}
-use mathlib.Core.List.{[], ◌++◌, ◌∷◌, cons≢nil, head-eq_of_cons-eq, nil≢cons, tail-eq_of_cons-eq}
-use Prim.Native.Nat.{◌+◌, ◌<◌, ◌^◌, suc, ℕ}
-use borrow.Author.Tests.{eqb-true, ne_eqb}
-use lib.Dec.{eqb}
-use lib.Pow.{pow_pos}
-use native.Mathlib.Nat.{pow-suc}
-use native.Mathlib.Omega.{arith}
+use Rattle.std.proofs.Common.{[], ◌++◌, ◌+◌, ◌<◌, ◌^◌, ◌∙◌, ◌∷◌, ◌≡◌, ap, ap₂, arith, eqb, eqb-true, false, ne_eqb, pow_pos, pow-suc, refl, suc, sym, true, ℕ, ⊎_elim}
 use Rattle.digits.proofs.Digits.{bits_ext}
 use Rattle.digits.specs.Digits.{bit_at}
 use Rattle.laws.proofs.Logic.{contra, not_inj, split}
@@ -23,18 +14,14 @@ use Rattle.trees.specs.Tree.{Tree, WF, blocks, cut, is_empty, pair, slot_blocks,
 
 parts : {lo mid hi : ℕ} {x x' y y' : Live} → Within lo mid x → Within lo mid x' → Within mid hi y → Within mid hi y' → x ++ y ≡ x' ++ y' → (x ≡ x') × (y ≡ y')
 parts within_none within_none v v' e = (refl, e)
-parts within_none (within_some s n f w) within_none v' e = absurd (nil≢cons e)
-parts within_none (within_some {b = z} s n f w) (within_some {b = z'} s' n' f' v) v' e = let h = ap (λ (r : Block). r.start) (head-eq_of_cons-eq e) in absurd (omega arith)
-parts (within_some s n f w) within_none v within_none e = absurd (cons≢nil e)
-parts (within_some {b = z} s n f w) within_none v (within_some {b = z'} s' n' f' v') e = let h = ap (λ (r : Block). r.start) (head-eq_of_cons-eq e) in absurd (omega arith)
-parts (within_some s n f w) (within_some s' n' f' w') v v' e =
-    let r = parts w w' v v' (tail-eq_of_cons-eq e) in
-    (ap₂ ◌∷◌ (head-eq_of_cons-eq e) r.0, r.1)
+parts within_none (within_some s n f w) within_none v' e = grind arith
+parts within_none (within_some s n f w) (within_some s' n' f' v) v' e = grind arith
+parts (within_some s n f w) within_none v within_none e = grind arith
+parts (within_some s n f w) within_none v (within_some s' n' f' v') e = grind arith
+parts (within_some s n f w) (within_some s' n' f' w') v v' e = grind (arith, parts w w' v v')
 
 straddles : {lo mid hi : ℕ} {x y : Live} (b : Block) → Within lo mid x → Within mid hi y → b.start < mid → mid < ends b → b ∷ [] ≡ x ++ y → ⊥
-straddles b within_none within_none s f e = cons≢nil e
-straddles b within_none (within_some {b = z} s' n' f' v) s f e = let h = ap (λ (r : Block). r.start) (head-eq_of_cons-eq e) in omega arith
-straddles b (within_some {b = z} s' n' f' w) v s f e = let h = ap (λ (r : Block). ends r) (head-eq_of_cons-eq e) in omega arith
+straddles b w v s f e = grind arith
 
 cut_unique : (c d a b q : ℕ) → c < size_count → d < size_count → 0 < a → a < 2 ^ slots c → 0 < b → b < 2 ^ slots d
     → slot_blocks c q 0 (slots c) a ≡ slot_blocks d q 0 (slots d) b → cut c a ≡ cut d b
@@ -66,11 +53,11 @@ pub tree_unique : {h : ℕ} {T T' : Tree} → WF h T → WF h T' → (q : ℕ) �
 unfolding blocks is_empty
 tree_unique wf_empty wf_empty q e = refl
 tree_unique wf_empty (wf_cut a b c) q e = contra (same_empty (wf_cut a b c) wf_empty q (sym e)) refl
-tree_unique wf_empty wf_whole q e = absurd (nil≢cons e)
+tree_unique wf_empty wf_whole q e = grind arith
 tree_unique (wf_cut a b c) wf_empty q e = contra (same_empty (wf_cut a b c) wf_empty q e) refl
 tree_unique (wf_cut {c = c} {bits = x} a b l) (wf_cut {c = d} {bits = y} a' b' l') q e = cut_unique c d x y q a a' b l b' l' e
 tree_unique (wf_cut {c = c} {bits = x} a b l) wf_whole q e = absurd (cut_whole c x q b l e)
-tree_unique wf_whole wf_empty q e = absurd (cons≢nil e)
+tree_unique wf_whole wf_empty q e = grind arith
 tree_unique wf_whole (wf_cut {c = c} {bits = x} a b l) q e = absurd (cut_whole c x q b l (sym e))
 tree_unique wf_whole wf_whole q e = refl
 tree_unique wf_whole (wf_pair {h = h} u v) q e = absurd (straddles (pages q (2 ^ suc h)) (blocks_within u q) (blocks_within v (q + 2 ^ h)) (omega (arith, pow_pos h)) (omega (arith, pow_pos h, pow-suc 2 h)) e)

@@ -1,14 +1,6 @@
 -- Where the blocks of a tree lie, and when the run of a tree is clear. Assumes nothing.
-use mathlib.Core.Path.{◌∙◌, ◌≡◌, ap₂, refl}
-use mathlib.Core.Logic.{◌≢◌, ◌⊎◌, inl, inr}
-use mathlib.Core.Bool.{Bool, ◌&&◌, ◌||◌, cond, false, true}
-use mathlib.Core.List.{[], ◌++◌, ◌∷◌}
-use Prim.Native.Nat.{◌%◌, ◌*◌, ◌+◌, ◌/◌, ◌<◌, ◌^◌, ◌≤◌, suc, zero, ℕ}
-use borrow.Author.Tests.{eqb-false, le-leb, lt-leb}
-use lib.Dec.{eqb, leb}
-use lib.Pow.{pow_pos}
-use native.Mathlib.Nat.{pow-suc}
-use native.Mathlib.Omega.{arith}
+use Rattle.std.proofs.Common.{Bool, [], ◌%◌, ◌&&◌, ◌*◌, ◌++◌, ◌+◌, ◌/◌, ◌<◌, ◌^◌, ◌||◌, ◌∙◌, ◌∷◌, ◌≡◌, ◌≢◌, ◌≤◌, ◌⊎◌, ap₂, arith, cond, eqb, false, inl, inr, le-leb, leb, pow_pos, pow-suc, refl, suc, true, zero, ℕ}
+use Rattle.std.proofs.lemmas.Bool.{eqb-false, lt-leb}
 use Rattle.laws.proofs.Lists.{clear_append}
 use Rattle.laws.proofs.Logic.{split}
 use Rattle.laws.proofs.Sizes.{slot_in, small_pos}

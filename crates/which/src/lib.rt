@@ -1,67 +1,62 @@
-// Which (document 01, section 3), on a table of exactly the cells needed and at an offset of the arena.
+// Which (document 01, section 3), on the book of an arena and at an offset of it.
 #![tactic(auto)]
 
-ghost use Rattle.std.specs.Prelude.{◌≡◌, ◌*◌, ◌+◌, ◌-◌, ◌/◌, ◌<◌, ◌≤◌, ◌^◌, max, suc, get_or, length};
-ghost use Rattle.meaning.specs.Blocks.{arena, m_most, page_bytes, size_count};
+ghost use Rattle.std.specs.Prelude.{◌≡◌, ◌*◌, ◌+◌, ◌-◌, ◌/◌, ◌<◌, ◌≤◌, ◌^◌, max, suc, get_or};
+ghost use Rattle.meaning.specs.Blocks.{arena, page_bytes};
+ghost use Rattle.terms.specs.Answers.{as_answer, tells_block};
 ghost use Rattle.cells.specs.Cell.{tag_in};
-ghost use Rattle.table.specs.Table.{need};
 ghost use Rattle.table.specs.Walks.{located};
+ghost use Rattle.walks.specs.Books.{IsKept, cells_of, spent_of};
 ghost use Rattle.which.specs.Told.{Told};
 
-use cells::{WHOLE_TAG, get, is_open};
-use terms::{
-    PAGE_BYTES, Reply, SIZE_COUNT, grant, leaf_at, refuse, run_bytes, run_offset, slot_count,
-    slot_offset, small_size,
-};
-use walks::{locate, map_of, node_above};
+use cells::{Tag, is_open};
+use terms::{Block, PAGE_BYTES, Refusal, Size, run_bytes};
+use walks::{Shown, map_of, node_above};
 
-// The slot that holds the byte o, if there is one and it is live; its page serves size number c.
-fn tell_slot(t: &[u64], m: u64, o: u64, leaf: usize, c: u64, spent: &mut u64) -> Reply
-    requires m_in_range { m ≤ m_most }
-    requires o_in_arena { o < arena m }
-    requires leaf_of_o { leaf ≡ 2 ^ m + o / page_bytes }
-    requires c_in_range { c < size_count }
-    requires located_at { 0 ≡ located (suc m) t.now leaf 0 }
-    requires page_tag { tag_in (get_or t.now leaf 0) ≡ c + 1 }
-    requires whole_table { length t.now ≡ need m }
-    requires few_spent { spent.old < 2 ^ 21 }
-    ensures { Told m 1 o t.now result spent.old spent.new }
+// The slot that holds the byte o, if there is one and it is live; its page serves that size.
+fn tell_slot(book: &mut Shown<'_>, o: u64, leaf: usize, size: Size) -> Result<Block, Refusal>
+    requires o_in_arena { o < arena book.old.arena.m }
+    requires leaf_of_o { leaf ≡ 2 ^ book.old.arena.m + o / page_bytes }
+    requires located_at { 0 ≡ located (suc book.old.arena.m) (cells_of book.old) leaf 0 }
+    requires page_tag { tag_in (get_or (cells_of book.old) leaf 0) ≡ size.number + 1 }
+    requires few_spent { spent_of book.old < 2 ^ 21 }
+    ensures kept { IsKept book.old book.new }
+    ensures told { Told book.old.arena.m 1 o (cells_of book.old) (as_answer tells_block result) (spent_of book.old) (spent_of book.new) }
 {
-    let size = small_size(c);
-    let i = o % PAGE_BYTES / size;
-    if slot_count(c) <= i {
-        return refuse(4);
+    let bytes = size.bytes();
+    let i = o % PAGE_BYTES / bytes;
+    if size.slots() <= i {
+        return Err(Refusal::NotLive);
     }
-    let bits = get(t, map_of(m, leaf), &mut *spent);
+    let bits = book.get(map_of(book.arena, leaf));
     if is_open(bits, i) {
-        return refuse(4);
+        return Err(Refusal::NotLive);
     }
-    grant(slot_offset(m, c, leaf, i), size, 0)
+    Ok(Block {
+        start: book.arena.slot_offset(size, leaf, i),
+        size: bytes,
+    })
 }
 
-// The start and the size of the live block that holds the byte o.
-pub fn tell_block(t: &[u64], m: u64, o: u64, spent: &mut u64) -> Reply
-    requires o_in_arena { o < arena m }
-    requires m_in_range { m ≤ m_most }
-    requires whole_table { length t.now ≡ need m }
-    requires few_spent { spent.old < 2 ^ 20 }
-    ensures { Told m (1 + max 1 m) o t.now result spent.old spent.new }
+// The live block that holds the byte o.
+pub fn tell_block(book: &mut Shown<'_>, o: u64) -> Result<Block, Refusal>
+    requires o_in_arena { o < arena book.old.arena.m }
+    requires few_spent { spent_of book.old < 2 ^ 20 }
+    ensures kept { IsKept book.old book.new }
+    ensures told { let m = book.old.arena.m in Told m (1 + max 1 m) o (cells_of book.old) (as_answer tells_block result) (spent_of book.old) (spent_of book.new) }
 {
-    let leaf = leaf_at(m, o);
-    let spot = locate(t, m, leaf, &mut *spent);
-    let h = spot.height;
-    let tag = spot.tag;
-    if m < h {
-        return refuse(4);
+    let leaf = book.arena.leaf_at(o);
+    let Some(found) = book.locate(leaf) else {
+        return Err(Refusal::NotLive);
+    };
+    match found.tag {
+        Tag::Whole => Ok(Block {
+            start: book
+                .arena
+                .run_offset(found.height, node_above(leaf, found.height)),
+            size: run_bytes(found.height),
+        }),
+        Tag::Page(size) if found.height == 0 => tell_slot(book, o, leaf, size),
+        _ => Err(Refusal::NotLive),
     }
-    if tag == WHOLE_TAG {
-        return grant(run_offset(m, h, node_above(leaf, h)), run_bytes(h), 0);
-    }
-    if h != 0 {
-        return refuse(4);
-    }
-    if SIZE_COUNT < tag {
-        return refuse(4);
-    }
-    tell_slot(t, m, o, leaf, tag - 1, &mut *spent)
 }

@@ -1,17 +1,14 @@
 -- `check_up::check_table` meets its contract. The loop's invariant: the levels lower than h pass, and what is still to be looked at was not
 -- yet counted. Assumes nothing.
-use mathlib.Core.Path.{◌≡◌}
-use Prim.Native.Nat.{◌*◌, ◌+◌, ◌-◌, ◌<◌, ◌^◌, ◌≤◌}
+use Rattle.std.proofs.Common.{◌*◌, ◌+◌, ◌-◌, ◌<◌, ◌≡◌, ◌≤◌, ◌^◌}
 use Rattle.table.specs.Local.{LevelsSound}
+use Rattle.walks.specs.Books.{IsKept, cells_of, spent_of}
 use Rattle.check_up.proofs.check_table.Given as goal
 
 abbrev pub invariant-loop-h : goal.invariant-loop-h
-invariant-loop-h l = (l.h ≤ l.m + 1)
-    × (l.h ≤ l.m → l.first ≡ 2 ^ (l.m - l.h))
-    × (l.h ≤ l.m → 0 < l.h → l.spent + 6 * l.first ≤ l.initial.spent + 5 * 2 ^ l.m)
-    × (l.h ≡ 0 → l.spent ≤ l.initial.spent)
-    × (l.m < l.h → l.spent + 3 ≤ l.initial.spent + 5 * 2 ^ l.m)
-    × LevelsSound l.t l.m l.h
-
-abbrev pub decreases-loop-h : goal.decreases-loop-h
-decreases-loop-h l = l.m + 1 - l.h
+invariant-loop-h l = record {
+  kept : IsKept l.initial.book l.book;
+  leaves : l.h ≡ 0 → spent_of l.book ≤ spent_of l.initial.book;
+  counted : 0 < l.h → spent_of l.book + 6 * 2 ^ (l.initial.book.arena.m - l.h) ≤ spent_of l.initial.book + 5 * 2 ^ l.initial.book.arena.m;
+  sound : LevelsSound (cells_of l.initial.book) l.initial.book.arena.m l.h;
+}

@@ -1,56 +1,35 @@
-use mathlib.Core.Path.{◌∙◌, ◌≡◌, ap}
-use Prim.Native.Nat.{◌+◌, ◌^◌, ◌≤◌, ℕ}
-use lib.Pow.{pow_mono}
-use native.Mathlib.Omega.{arith}
+use Rattle.std.proofs.Common.{arith, rules, ◌+◌, ◌-◌, ◌^◌, ◌≡◌}
+use Rattle.meaning.specs.Bytes.{total}
 use Rattle.table.proofs.NodeSums.{levels_held_le}
-use Rattle.table.proofs.Start.{half_power}
-use Rattle.figures.proofs.Levels.{accesses_next, levels_end, levels_held_more, levels_live_more, levels_next, levels_start}
+use Rattle.table.specs.Sums.{levels_sum, node_held, node_live}
+use Rattle.figures.proofs.Levels.{accesses_next, levels_held_more, levels_live_more, levels_next}
 use Rattle.figures.proofs.all_sums.Goals as goal
 
-pub loop-h-init : goal.loop-h-init
-loop-h-init c = let first = c.page_count-first.ensures in
-    (omega arith, λ b. first ∙ ap (λ (x : ℕ). 2 ^ x) (omega arith), levels_start _ _, levels_start _ _, omega arith, (λ z. omega arith), λ p. absurd (omega arith))
-
-pub level_sums-level-requires : goal.level_sums-level-requires
-level_sums-level-requires c = let head = c.loop-h in
-    let low : head.h ≤ c.args.m = omega arith in
-    record { m_in_range = c.requires.m_in_range; h_in_range = low; first_of_level = head.invariant.1 low; whole_table = c.requires.whole_table; few_spent = omega (arith, pow_mono c.requires.m_in_range) }
-
-pub overflow_add-live : goal.overflow_add-live
-overflow_add-live c = let args = c.args in
-    let head = c.loop-h in
-    let low : head.h ≤ args.m = omega arith in
-    omega (arith, levels_live_more args.t.now args.m head.h head.first _ _ c.requires.m_in_range low (head.invariant.1 low) head.invariant.2 c.level_sums-level.ensures.live)
-
-pub overflow_add-held : goal.overflow_add-held
-overflow_add-held c = let args = c.args in
-    let head = c.loop-h in
-    let low : head.h ≤ args.m = omega arith in
-    omega (arith, levels_held_more args.t.now args.m head.h head.first _ _ c.requires.m_in_range low (head.invariant.1 low) head.invariant.3 c.level_sums-level.ensures.held)
-
-pub overflow_add-h : goal.overflow_add-h
-overflow_add-h c = omega (arith, c.requires.m_in_range)
-
-pub loop-h-smaller : goal.loop-h-smaller
-loop-h-smaller c = omega arith
+pub add_assign-requires : goal.add_assign-requires
+add_assign-requires c =
+    let t = c.args.book.now.table.cells.now in
+    let m = c.args.book.now.arena.m in
+    let h = c.loop-h.h in
+    let few = c.args.book.now.arena.in_range in
+    let live : c.level_sums.result.live ≡ total (node_live t (2 ^ m) h) (2 ^ (m - h)) (2 ^ (m - h)) = cc in
+    let held : c.level_sums.result.held ≡ total (node_held t h) (2 ^ (m - h)) (2 ^ (m - h)) = cc in
+    let loop = c.loop-h.invariant in
+    (omega (arith, levels_live_more t m h _ _ few (omega arith) loop.live live), omega (arith, levels_held_more t m h _ _ few (omega arith) loop.held held))
 
 pub loop-h-preserved : goal.loop-h-preserved
-loop-h-preserved c = let head = c.loop-h in
-    let level = c.level_sums-level in
-    let low : head.h ≤ c.args.m = omega arith in
-    let first = head.invariant.1 low in
-    let left = accesses_next c.args.m head.h _ _ _ _ first head.invariant.5 head.invariant.6 level.ensures.cost level.ensures.cost_above in (
-      omega arith,
-      λ b. half_power c.args.m head.h head.first (omega arith) first,
-      levels_next _ _ _ _ _ _ first head.invariant.2 level.ensures.live,
-      levels_next _ _ _ _ _ _ first head.invariant.3 level.ensures.held,
-      omega (arith, left),
-      (λ z. absurd (omega arith)),
-      λ p. left,
-    )
+loop-h-preserved c =
+    let loop = c.loop-h.invariant in
+    record {
+      kept = search rules;
+      live = grind (arith, levels_next);
+      held = grind (arith, levels_next);
+      none_spent = λ z. absurd (omega arith);
+      left = λ p. accesses_next _ _ _ _ _ (omega arith) loop.none_spent loop.left (rw loop.kept.1 at c.level_sums.ensures.cost) (rw loop.kept.1 at c.level_sums.ensures.cost_above);
+    }
 
-pub returns : goal.returns
-returns c = let head = c.loop-h in
-    let z : head.h ≡ c.args.m + 1 = omega arith in
-    let held = levels_end _ _ _ _ z head.invariant.3 in
-    record { live = levels_end _ _ _ _ z head.invariant.2; held = held; few = rw held (levels_held_le _ _ _ (omega arith)); cost = omega (arith, head.invariant.6 (omega arith)) }
+pub returns-2-clause-few : goal.returns-2-clause-few
+returns-2-clause-few c =
+    let t = c.args.book.now.table.cells.now in
+    let m = c.args.book.now.arena.m in
+    let held : c.add_assign.new.self.held ≡ levels_sum (node_held t) m (m + 1) = grind (arith, levels_next) in
+    omega (arith, levels_held_le t m (m + 1) (omega arith))

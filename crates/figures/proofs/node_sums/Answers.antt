@@ -1,43 +1,36 @@
 -- `figures::node_sums` meets its contract: by the tag of the node's cell. Assumes nothing.
-use mathlib.Core.Path.{◌∙◌, ap}
-use Prim.Native.Nat.{◌+◌, ◌^◌, ℕ}
-use borrow.Author.Rules.{rules}
-use lib.ListN.{get_or}
-use lib.Pow.{pow_mono}
-use native.Mathlib.Omega.{arith}
-use Rattle.figures.proofs.Nodes.{no_size, node_below, node_cut, node_none, node_whole, past_sizes}
+use Rattle.std.proofs.Common.{arith, rules, Some, ◌+◌, ◌^◌, ◌∙◌, ◌≡◌, get_or}
+use Rattle.cells.specs.declared.Tag.TheVariants.{Page, Whole}
+use Rattle.terms.specs.declared.small.Size.{Size}
+use Rattle.figures.proofs.Nodes.{node_below, node_cut, node_none, node_whole}
 use Rattle.figures.proofs.node_sums.Goals as goal
+use Rattle.figures.proofs.node_sums.Goals.{in_default-via-in-Some-Page+else-h-eq0, in_default-via-in-Some+in_default, in_default-via-in_default}
 
-pub get-cell-requires : goal.get-cell-requires
-get-cell-requires c = record { inside = omega (arith, node_below c.args.m c.args.h c.args.v c.requires.v_below); countable = search rules }
+pub get-requires-clause-inside : goal.get-requires-clause-inside
+get-requires-clause-inside c = omega (arith, node_below c.args.book.now.arena.m c.args.h c.args.v c.requires.v_below)
 
-pub returns-then-tag-eq-WHOLE_TAG : goal.returns-then-tag-eq-WHOLE_TAG
-returns-then-tag-eq-WHOLE_TAG c = let get = c.get-cell in
-    let node = node_whole c.args.t.now (2 ^ c.args.m) c.args.h c.args.v get.result c.tag_of-tag.result get.ensures.read c.tag_of-tag.ensures c.if-tag-eq-WHOLE_TAG.true in
-    record { live = c.run_bytes.ensures ∙ node.0; held = omega (arith, c.run_bytes-then-tag-eq-WHOLE_TAG.ensures, node.1); cost = omega (arith, get.ensures.counted) }
+pub returns-in-Some-Whole : goal.returns-in-Some-Whole
+returns-in-Some-Whole c =
+    let says = rw c.in-Some-Whole.field-0-is at c.in-Some-Whole.ensures in
+    let node = node_whole c.args.book.now.table.cells.now (2 ^ c.args.book.now.arena.m) c.args.h c.args.v c.get.result c.get.ensures.read says in
+    record { kept = search rules; live = c.run_bytes-live.ensures ∙ node.0; held = omega (arith, c.run_bytes-live.ensures, node.1); cost = omega arith }
 
-pub returns-then-h-ne0 : goal.returns-then-h-ne0
-returns-then-h-ne0 c = let get = c.get-cell in
-    let node = node_none c.args.t.now (2 ^ c.args.m) c.args.h c.args.v get.result c.tag_of-tag.result get.ensures.read c.tag_of-tag.ensures c.if-tag-eq-WHOLE_TAG.false (λ e. absurd (c.if-h-ne0.true e)) in
-    record { live = node.0; held = node.1; cost = omega (arith, get.ensures.counted) }
+pub returns-in-Some-Page : goal.returns-in-Some-Page
+returns-in-Some-Page c =
+    let t = c.args.book.now.table.cells.now in
+    let says = rw c.in-Some-Page.field-0-is at c.in-Some-Page.ensures in
+    let bits : c.get-bits.result ≡ get_or t (c.args.v + 2 ^ c.args.book.now.arena.m) 0 = cc in
+    let node = node_cut t (2 ^ c.args.book.now.arena.m) c.args.h c.args.v c.get.result c.get.ensures.read c.in-Some-Page.size c.get-bits.result c.if-h-eq0.true says bits in
+    record { kept = search rules; live = c.page_live.ensures ∙ node.0; held = node.1; cost = omega arith }
 
-pub returns-then-tag-eq0 : goal.returns-then-tag-eq0
-returns-then-tag-eq0 c = let get = c.get-cell in
-    let node = node_none c.args.t.now (2 ^ c.args.m) c.args.h c.args.v get.result c.tag_of-tag.result get.ensures.read c.tag_of-tag.ensures c.if-tag-eq-WHOLE_TAG.false (λ e. no_size _ c.if-tag-eq0.true) in
-    record { live = node.0; held = node.1; cost = omega (arith, get.ensures.counted) }
-
-pub returns-then-tag-gt-SIZE_COUNT : goal.returns-then-tag-gt-SIZE_COUNT
-returns-then-tag-gt-SIZE_COUNT c = let get = c.get-cell in
-    let node = node_none c.args.t.now (2 ^ c.args.m) c.args.h c.args.v get.result c.tag_of-tag.result get.ensures.read c.tag_of-tag.ensures c.if-tag-eq-WHOLE_TAG.false (λ e. past_sizes _ c.if-tag-gt-SIZE_COUNT.true) in
-    record { live = node.0; held = node.1; cost = omega (arith, get.ensures.counted) }
-
-pub overflow_add-v : goal.overflow_add-v
-overflow_add-v c = omega (arith, node_below c.args.m c.args.h c.args.v c.requires.v_below, pow_mono c.requires.m_in_range)
-
-pub get-bits-requires : goal.get-bits-requires
-get-bits-requires c = record { inside = omega (arith, node_below c.args.m c.args.h c.args.v c.requires.v_below, c.page_count.ensures); countable = omega (arith, c.get-cell.ensures.counted) }
-
-pub returns : goal.returns
-returns c = let get = c.get-cell in
-    let node = node_cut c.args.t.now (2 ^ c.args.m) c.args.h c.args.v get.result c.tag_of-tag.result get.ensures.read c.tag_of-tag.ensures c.get-bits.result (omega arith) (omega arith) (omega arith) (c.get-bits.ensures.read ∙ ap (λ (x : ℕ). get_or c.args.t.now (c.args.v + x) 0) c.page_count.ensures) in
-    record { live = c.page_live.ensures ∙ node.0; held = node.1; cost = omega (arith, get.ensures.counted, c.get-bits.ensures.counted) }
+pub returns-in_default : goal.returns-in_default
+returns-in_default c =
+    let told = c.tag_of.result in
+    let other : (told ≡ Some Whole → ⊥) × ((size : Size) → told ≡ Some (Page size) → c.args.h ≡ 0 → ⊥) =
+    elim c.in_default.branch [
+      | in_default-via-in-Some-Page+else-h-eq0 w ↦ (λ e. cc, λ size e z. w.if-h-eq0.false z)
+      | in_default-via-in-Some+in_default w ↦ (λ e. cc, λ size e z. cc)
+      | in_default-via-in_default w ↦ (λ e. cc, λ size e z. cc)
+    ] in
+    let node = node_none c.args.book.now.table.cells.now (2 ^ c.args.book.now.arena.m) c.args.h c.args.v c.get.result c.get.ensures.read told c.tag_of.ensures other.0 other.1 in
+    record { kept = search rules; live = cc; held = cc; cost = omega arith }

@@ -1,21 +1,20 @@
 -- `give_back::give_run` meets its contract: the block starts at the offset, or not. Assumes nothing.
-use mathlib.Core.Path.{refl}
-use native.Mathlib.Omega.{arith}
+use Rattle.std.proofs.Common.{arith}
 use Rattle.give_back.proofs.Runs.{run_done, run_node, run_refused}
 use Rattle.give_back.proofs.give_run.Goals as goal
 
 pub run_offset-requires : goal.run_offset-requires
-run_offset-requires c = let node = run_node _ _ _ _ _ c.requires.o_in_arena c.requires.leaf_of_o c.requires.h_in_range c.node_above-v.ensures in
-    record { m_in_range = c.requires.m_in_range; k_in_range = c.requires.h_in_range; v_from = node.0; v_below = node.1 }
+run_offset-requires c =
+    let range = run_node _ _ _ _ _ c.requires.o_in_arena c.requires.leaf_of_o c.requires.h_in_range c.node_above-v.ensures in
+    record { k_in_range = c.requires.h_in_range; v_from = range.0; v_below = range.1 }
 
-pub returns-then-o-run_offset : goal.returns-then-o-run_offset
-returns-then-o-run_offset c = run_refused _ _ _ _ _ _ _ c.requires.o_in_arena c.requires.leaf_of_o c.requires.h_in_range c.requires.located_at c.requires.block_tag
-    c.node_above-v.ensures c.run_offset.ensures.starts _ _ _ _ (omega (arith, c.if-o-run_offset.true)) refl refl c.refuse.ensures
+pub returns-then-o-run_offset-clause-gave : goal.returns-then-o-run_offset-clause-gave
+returns-then-o-run_offset-clause-gave c = run_refused _ _ _ _ _ _ _ c.requires.o_in_arena c.requires.leaf_of_o c.requires.h_in_range c.requires.located_at c.requires.block_tag
+    c.node_above-v.ensures c.run_offset.ensures.starts _ (omega arith)
 
-pub put_node-requires : goal.put_node-requires
-put_node-requires c = let range = run_node _ _ _ _ _ c.requires.o_in_arena c.requires.leaf_of_o c.requires.h_in_range c.node_above-v.ensures in
-    record { height_in_range = omega (arith, c.requires.h_in_range); m_in_range = c.requires.m_in_range; v_below = range.2; nodes_in_table = omega arith; few_spent = omega arith }
+pub put_node-requires-clause-v_below : goal.put_node-requires-clause-v_below
+put_node-requires-clause-v_below c = (run_node _ _ _ _ _ c.requires.o_in_arena c.requires.leaf_of_o c.requires.h_in_range c.node_above-v.ensures).2
 
-pub returns : goal.returns
-returns c = run_done _ _ _ _ _ _ _ c.requires.o_in_arena c.requires.leaf_of_o c.requires.h_in_range c.requires.located_at c.requires.block_tag
-    c.node_above-v.ensures c.run_offset.ensures.starts _ _ _ _ _ (omega (arith, c.if-o-run_offset.false)) c.vacant_cell.ensures.number c.put_node.ensures c.grant.ensures
+pub returns-clause-gave : goal.returns-clause-gave
+returns-clause-gave c = run_done _ _ _ _ _ _ _ c.requires.o_in_arena c.requires.leaf_of_o c.requires.h_in_range c.requires.located_at c.requires.block_tag
+    c.node_above-v.ensures c.run_offset.ensures.starts _ _ _ _ (omega arith) c.vacant_cell.ensures.number c.put_node.ensures.put

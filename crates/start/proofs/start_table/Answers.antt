@@ -1,70 +1,35 @@
-use mathlib.Core.Path.{◌∙◌, ◌≡◌, ap, refl}
-use Prim.Native.Nat.{◌-◌, ◌<◌, ◌≤◌, ◌^◌, ℕ}
-use borrow.Author.Rules.{rules}
-use lib.Pow.{pow_mono, pow_pos}
-use native.Mathlib.Omega.{arith}
-use Rattle.table.proofs.Start.{begun_all, begun_more, begun_none, half_power}
-use Rattle.table.specs.Start.{Begun}
+use Rattle.std.proofs.Common.{List, arith, add-one, ◌*◌, ◌+◌, ◌-◌, ◌/◌, ◌≡◌, ◌^◌, ◌≤◌, ap, ℕ, ◌∙◌}
+use Rattle.std.proofs.lemmas.Nat.{shl-shr}
+use Rattle.table.proofs.Parts.{next_level}
+use Rattle.table.proofs.Start.{begun_all, begun_more}
+use Rattle.table.specs.Start.{Begun, Filled}
+use Rattle.trees.proofs.Runs.{span}
 use Rattle.start.proofs.start_table.Goals as goal
 
-pub overflow_mul-pages : goal.overflow_mul-pages
-overflow_mul-pages c = omega (arith, pow_mono c.requires.m_in_range)
+module _ (m h pages : ℕ) (l : h ≤ m) (p : pages ≡ 2 ^ m) where
+  -- the first node of a height
+  first_node : pages / 2 ^ h ≡ 2 ^ (m - h)
+  first_node = ap (λ k. k / 2 ^ h) (p ∙ span {h = m} h (m - h) (omega arith)) ∙ shl-shr (2 ^ (m - h)) h
 
-pub overflow_mul-pages-2 : goal.overflow_mul-pages-2
-overflow_mul-pages-2 c = omega (arith, pow_mono c.requires.m_in_range)
-
-pub fill-requires : goal.fill-requires
-fill-requires c = record { in_order = omega (arith, pow_mono c.requires.m_in_range); to_in_table = omega (arith, pow_mono c.requires.m_in_range); few_spent = omega (arith, pow_mono c.requires.m_in_range) }
-
-pub fill-requires-2 : goal.fill-requires-2
-fill-requires-2 c = record { in_order = omega (arith, pow_mono c.requires.m_in_range, pow_pos c.args.m, c.fill.ensures.filled.long); to_in_table = omega (arith, pow_mono c.requires.m_in_range, pow_pos c.args.m, c.fill.ensures.filled.long); few_spent = omega (arith, pow_mono c.requires.m_in_range, pow_pos c.args.m, c.fill.ensures.filled.long) }
-
-pub loop-h-init : goal.loop-h-init
-loop-h-init c = let m : ℕ = c.args.m in
-    let pages = c.page_count-pages.ensures in
-    let blank = c.fill.ensures.filled in
-    let spare = c.fill-2.ensures.filled in
-    let began : Begun c.args.t.now c.fill-2.new.t m 0 = begun_none _ _ _ m (rw pages at blank) spare in (
-      search rules,
-      λ x. pages ∙ ap (λ (k : ℕ). 2 ^ k) (omega arith),
-      λ x. omega (arith, pages),
-      λ x. absurd (omega arith),
-      omega (arith, pow_mono c.requires.m_in_range, c.requires.few_spent, pages, c.fill.ensures.counted, c.fill-2.ensures.counted),
-      omega (arith, began.long, c.requires.whole_table),
-      record { long = refl; spare = began.spare; levels = began.levels; blank = began.blank; rest = λ i x. refl },
-    )
-
-pub overflow_mul-first : goal.overflow_mul-first
-overflow_mul-first c = omega (arith, c.loop-h.invariant.2 (omega arith))
-
-pub fill-requires-in-loop-h : goal.fill-requires-in-loop-h
-fill-requires-in-loop-h c = let m : ℕ = c.args.m in
-    let last = c.loop-h in
-    let more : last.h ≤ m = omega arith in
-    let cost = last.invariant.2 more in
-    record { in_order = search rules; to_in_table = omega (arith, last.invariant.6.long, last.invariant.1 more, pow_mono {i = m - last.h} {j = m} (omega arith)); few_spent = omega arith }
+  -- one level more is filled
+  level_begun : {t u u' : List ℕ} {x : ℕ} → x ≡ h + 1 → Begun t u m h → Filled u u' (pages / 2 ^ h) (2 * (pages / 2 ^ h)) x → Begun t u' m (h + 1)
+  level_begun e b f = begun_more _ _ _ m h _ l first_node b (rw e at f)
 
 pub loop-h-preserved : goal.loop-h-preserved
-loop-h-preserved c = let m : ℕ = c.args.m in
-    let last = c.loop-h in
-    let more : last.h ≤ m = omega arith in
-    let level = last.invariant.1 more in
-    let cost = last.invariant.2 more in
-    let fill = c.fill-in-loop-h.ensures in (
-      search rules,
-      λ x. half_power m last.h last.first (omega arith) level,
-      λ x. omega (arith, cost, fill.counted),
-      λ x. let z : m - last.h ≡ 0 = omega arith in let one : last.first ≡ 1 = level ∙ ap (λ (k : ℕ). 2 ^ k) z in omega (arith, cost, fill.counted),
-      last.invariant.4,
-      last.invariant.5,
-      begun_more _ last.t _ m last.h last.first more level last.invariant.6 (rw c.vacant_cell.ensures.number at fill.filled),
-    )
+loop-h-preserved c =
+    let m = c.fill-2.new.book.arena.m in
+    let h = c.loop-h.h in
+    let next : 2 ^ (m - h) ≡ 2 * 2 ^ (m - (h + 1)) = rw (add-one h) (next_level m h (omega arith)) in
+    record {
+      same_book = (cc, cc);
+      counted = omega (arith, first_node m h c.pages-pages.result (omega arith) (cc));
+      begun = level_begun m h c.pages-pages.result (omega arith) (cc) c.vacant_cell.ensures.number c.loop-h.invariant.begun c.fill-in-loop-h.ensures.filled;
+    }
 
-pub shape_of-t : goal.shape_of-t
-shape_of-t c = omega (arith, c.loop-h.invariant.6.long, c.loop-h.invariant.5, c.requires.whole_table)
-
-pub returns : goal.returns
-returns c = let last = c.loop-h in
-    let over : c.args.m < last.h = omega arith in
-    let pages = c.page_count-pages.ensures in
-    record { stands = begun_all _ _ c.args.m last.h over c.requires.m_in_range (omega arith) last.invariant.6; long = omega (arith, last.invariant.6.long, last.invariant.5, c.requires.whole_table); cost = omega (arith, last.invariant.3 over, pages, c.fill.ensures.counted, c.fill-2.ensures.counted) }
+pub returns-2-clause-stands : goal.returns-2-clause-stands
+returns-2-clause-stands c =
+    let m = c.fill-2.new.book.arena.m in
+    let h = c.loop-h.h in
+    let same : c.args.book.now.arena.m ≡ m = cc in
+    let begun = level_begun m h c.pages-pages.result (omega arith) (cc) c.vacant_cell.ensures.number c.loop-h.invariant.begun c.fill-in-loop-h.ensures.filled in
+    rw same (begun_all _ _ m (h + 1) (omega arith) c.fill-2.new.book.arena.in_range (omega arith) begun)

@@ -1,8 +1,5 @@
 -- `take::take_run` meets its contract. Assumes nothing.
-use Prim.Native.Nat.{◌-◌, ◌^◌, ◌≤◌, ℕ}
-use borrow.Author.Rules.{rules}
-use lib.Pow.{pow_mono, pow_pos}
-use native.Mathlib.Omega.{arith}
+use Rattle.std.proofs.Common.{◌-◌, ◌^◌, ◌≡◌, ◌≤◌, arith, pow_mono, ℕ}
 use Rattle.take.proofs.Runs.{run_none, run_odd, run_some}
 use Rattle.take.proofs.take_run.Goals as goal
 
@@ -10,28 +7,29 @@ use Rattle.take.proofs.take_run.Goals as goal
 levels : (m k : ℕ) → 2 ^ (m - k) ≤ 2 ^ m
 levels m k = pow_mono {i = m - k} {j = m} (omega arith)
 
-pub get-root-requires : goal.get-root-requires
-get-root-requires c = record { inside = omega (arith, pow_pos c.args.m); countable = search rules }
+pub returns-then-not-has_room_for-clause-took : goal.returns-then-not-has_room_for-clause-took
+returns-then-not-has_room_for-clause-took c = run_none c.requires.k_in_range (omega arith) (cc) (cc)
 
-pub returns-then-not-has_room_for : goal.returns-then-not-has_room_for
-returns-then-not-has_room_for c = run_none _ c.args.k _ _ _ _ _ _ c.requires.k_in_range c.get-root.ensures.read c.get-root.ensures.counted c.has_room_for.ensures
-    (c.if-not-has_room_for.true) c.refuse.ensures
+pub get-requires-2-clause-inside : goal.get-requires-2-clause-inside
+get-requires-2-clause-inside c =
+    let same : c.down-v.new.self.arena.m ≡ c.get.new.self.arena.m = cc in
+    rw same (omega (arith, levels c.get.new.self.arena.m c.args.k))
 
-pub down-v-requires : goal.down-v-requires
-down-v-requires c = record { what_in_range = search rules; levels_in_range = search rules; nodes_in_table = omega (arith, levels c.args.m c.args.k); few_spent = search rules }
+pub returns-then-get-vacant_cell-clause-took : goal.returns-then-get-vacant_cell-clause-took
+returns-then-get-vacant_cell-clause-took c =
+    let way = rw (c.get.ensures.kept.0, c.get.ensures.kept.1) at c.down-v.ensures.reached in
+    run_odd c.requires.k_in_range (omega arith) (cc) way (λ vacant. c.if-get-vacant_cell.true (cc)) (cc)
 
-pub get-cell-requires : goal.get-cell-requires
-get-cell-requires c = record { inside = omega (arith, levels c.args.m c.args.k); countable = search rules }
+pub put_node-requires-clause-v_below : goal.put_node-requires-clause-v_below
+put_node-requires-clause-v_below c =
+    let same : c.get-2.new.self.arena.m ≡ c.get.new.self.arena.m = cc in
+    rw same (omega (arith, levels c.get.new.self.arena.m c.args.k))
 
-pub returns-then-cell-vacant_cell : goal.returns-then-cell-vacant_cell
-returns-then-cell-vacant_cell c = run_odd _ c.args.k _ _ _ _ _ _ c.requires.k_in_range c.get-root.ensures.read c.get-root.ensures.counted c.has_room_for.ensures
-    _ _ _ _ _ (c.if-not-has_room_for.false) c.down-v.ensures c.get-cell.ensures.read c.get-cell.ensures.counted c.vacant_cell.ensures.number
-    c.if-cell-vacant_cell.true c.refuse-then-cell-vacant_cell.ensures
-
-pub put_node-requires : goal.put_node-requires
-put_node-requires c = record { height_in_range = search rules; m_in_range = search rules; v_below = omega (arith, levels c.args.m c.args.k, c.down-v.ensures.to); nodes_in_table = search rules; few_spent = search rules }
-
-pub returns : goal.returns
-returns c = run_some _ c.args.k _ _ _ _ _ _ c.requires.k_in_range c.get-root.ensures.read c.get-root.ensures.counted c.has_room_for.ensures
-    _ _ _ _ _ (c.if-not-has_room_for.false) c.down-v.ensures c.get-cell.ensures.read c.get-cell.ensures.counted c.vacant_cell.ensures.number
-    _ _ _ _ c.whole_cell.ensures c.put_node.ensures (c.run_offset.ensures.starts, c.run_offset.ensures.inside) c.grant.ensures
+pub returns-clause-took : goal.returns-clause-took
+returns-clause-took c =
+    let way = rw (c.get.ensures.kept.0, c.get.ensures.kept.1) at c.down-v.ensures.reached in
+    let same : c.get-2.new.self.table.cells ≡ c.args.book.now.table.cells = cc in
+    let same_arena : c.get-2.new.self.arena ≡ c.args.book.now.arena = cc in
+    let put = rw (same, same_arena, c.whole_cell.ensures) at c.put_node.ensures.put in
+    let place = rw (c.put_node.ensures.same_book.1, same_arena) at c.run_offset.ensures in
+    run_some c.requires.k_in_range (omega arith) (cc) way put place.starts place.inside

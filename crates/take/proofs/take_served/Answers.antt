@@ -1,21 +1,23 @@
 -- `take::take_served` meets its contract. Assumes nothing.
-use native.Mathlib.Omega.{arith}
-use Rattle.take.proofs.Served.{served_odd_full, served_odd_slot, served_odd_tag, served_some}
+use Rattle.std.proofs.Common.{Err, ◌≡◌, arith}
+use Rattle.std.proofs.lemmas.Result.{err_from_is_err_and}
+use Rattle.take.proofs.Served.{served_odd, served_some}
+use Rattle.terms.specs.declared.answers.Refusal.TheVariants.{NoRoom}
 use Rattle.take.proofs.take_served.Goals as goal
 
-pub returns-then-tag_of-c : goal.returns-then-tag_of-c
-returns-then-tag_of-c c = served_odd_tag _ c.args.c _ _ _ _ _ _ _ _ _ _ c.requires.c_in_range c.requires.page_there c.down-w.ensures c.get-cell.ensures.read c.get-cell.ensures.counted c.map_of.ensures c.get-bits.ensures.read c.get-bits.ensures.counted
-    _ c.tag_of.ensures c.if-tag_of-c.true c.refuse.ensures
+pub returns-in_err-i-clause-took : goal.returns-in_err-i-clause-took
+returns-in_err-i-clause-took c =
+    let why = err_from_is_err_and c.from_residual.result c.from_residual.ensures.1 in
+    let none = c.in_err-i.ensures.ok_part in
+    let refusal = rw none at c.in_err-i.ensures.value in
+    let answer : c.from_residual.result ≡ Err NoRoom = cc in
+    rw answer (served_odd c.args.size.in_range c.requires.page_there c.down-w.ensures.reached (cc) (cc) (omega arith) (rw none at c.slot_offered.ensures) (cc))
 
-pub returns-then-bits-eq0 : goal.returns-then-bits-eq0
-returns-then-bits-eq0 c = served_odd_full _ c.args.c _ _ _ _ _ _ _ _ _ _ c.requires.c_in_range c.requires.page_there c.down-w.ensures c.get-cell.ensures.read c.get-cell.ensures.counted c.map_of.ensures c.get-bits.ensures.read c.get-bits.ensures.counted
-    c.if-bits-eq0.true c.refuse-then-bits-eq0.ensures
-
-pub returns-then-slot_count-i : goal.returns-then-slot_count-i
-returns-then-slot_count-i c = served_odd_slot _ c.args.c _ _ _ _ _ _ _ _ _ _ c.requires.c_in_range c.requires.page_there c.down-w.ensures c.get-cell.ensures.read c.get-cell.ensures.counted c.map_of.ensures c.get-bits.ensures.read c.get-bits.ensures.counted
-    _ _ c.lowest-i.ensures c.slot_count.ensures (omega (arith, c.if-slot_count-i.true)) c.refuse-then-slot_count-i.ensures
-
-pub returns : goal.returns
-returns c = served_some _ c.args.c _ _ _ _ _ _ _ _ _ _ c.requires.c_in_range c.requires.page_there c.down-w.ensures c.get-cell.ensures.read c.get-cell.ensures.counted c.map_of.ensures c.get-bits.ensures.read c.get-bits.ensures.counted
-    _ _ c.lowest-i.ensures c.slot_count.ensures _ _ _ _ _ (omega (arith, c.if-slot_count-i.false)) c.without-rest.ensures c.page_cell.ensures c.put_leaf.ensures
-    (c.slot_offset.ensures.starts, c.slot_offset.ensures.inside) c.grant.ensures
+pub returns-clause-took : goal.returns-clause-took
+returns-clause-took c =
+    let same : c.get-bits.new.self.table.cells ≡ c.args.book.now.table.cells = cc in
+    let same_arena : c.get-bits.new.self.arena ≡ c.args.book.now.arena = cc in
+    let put = rw (same, same_arena, c.page_cell.ensures) at c.put_leaf.ensures.put in
+    let place = rw (c.put_leaf.ensures.same_book.1, same_arena) at c.slot_offset.ensures in
+    let offered = rw c.in_ok-i.ensures.ok_part at c.slot_offered.ensures in
+    served_some c.args.size.in_range c.requires.page_there c.down-w.ensures.reached (cc) (cc) (omega arith) offered (cc) put place.starts place.inside
