@@ -188,7 +188,7 @@ def source_of(name):
 
 def lists():
     """The functions that have lists of requests or answers, each with the numbers of the parameters that are."""
-    source = source_of("sequence")
+    source = source_of("sequence::serve")
     return {f"sequence::{function}": {str(number) for number, name in enumerate(needed.names(source, function), 1) if name in ones}
             for function, ones in LISTS.items()}
 
