@@ -23,9 +23,14 @@ pub enum Answer {
 }
 
 impl Answer {
-    // What a reply says, where its values are read so.
+    ghost use Rattle.std.specs.Prelude.{◌≡◌, ◌<◌};
+    ghost use Rattle.breatharena.specs.declared.answer.Answer.TheVariants.{Refusal};
+
+    // What a reply says: its refusal, or what `granted` makes of its values.
     pub fn of<F: FnOnce(Reply) -> Answer>(reply: Reply, granted: F) -> Answer
         requires { F.IsAlwaysCallable granted }
+        ensures granted { reply.refusal ≡ 0 → F.post granted reply result }
+        ensures refused { 0 < reply.refusal → result ≡ Refusal reply.refusal }
     {
         match reply.refusal {
             0 => granted(reply),
@@ -35,6 +40,11 @@ impl Answer {
 }
 
 impl fmt::Display for Answer {
+    ghost use Rattle.std.specs.Prelude.{Some};
+    ghost use Rattle.breatharena.specs.Text.{text};
+
+    ghost output = { λ a. Some (text a) };
+
     fn fmt<W: fmt::Write>(&self, f: &mut fmt::Formatter<W>) -> fmt::Result {
         match self {
             Answer::Refusal(number) => write!(f, "refusal {number}"),

@@ -36,7 +36,9 @@ impl<const N: usize> Buffer<N> {
         self.count == N
     }
 
-    pub fn is_empty(&self) -> bool {
+    pub fn is_empty(&self) -> bool
+        ensures { MatchBool result (length self.now ≡ 0) (0 < length self.now) }
+    {
         self.count == 0
     }
 
@@ -61,7 +63,9 @@ impl<const N: usize> Buffer<N> {
     }
 
     // Keeps the words of the line's request alone, with one space between two of them.
-    pub fn squeeze(&mut self) {
+    pub fn squeeze(&mut self)
+        ensures { length self.new ≤ length self.old }
+    {
         self.count = script::squeeze(&mut self.bytes[..self.count]);
     }
 }
