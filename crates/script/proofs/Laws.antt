@@ -33,7 +33,7 @@ unfolding number_of
 is_number s v some p e h = simp (lt-ltb 0 (length s) some, p, e, lt-ltb v (2 ^ 64) h)
 
 -- a word with a byte that is no digit
-pub not_plain : (s : List ℕ) → plain s ≡ false → number_of s ≡ None
+not_plain : (s : List ℕ) → plain s ≡ false → number_of s ≡ None
 unfolding number_of
 not_plain s p = rw p (bad (ltb 0 (length s)))
 
@@ -102,6 +102,9 @@ read_all s i v some e r =
     (r.worth ∙ rw (e, drop-length))
     r.below
 
+-- those laws, for the function that reads
+pub ruleset reading = (no_byte, read_none, read_more, read_bad, read_all)
+
 -- ---- printing a number
 
 -- a test of the first byte and one of the rest
@@ -159,3 +162,6 @@ pub reads_back : (k n : ℕ) → 0 < k → n < 10 ^ k → (1 < k → 10 ^ (k - 1
 reads_back k n some enough needed h =
     let p = prints n h in
     rw (exact k n some enough needed h) (is_number (decimal n) n p.some p.digits p.worth h)
+
+-- those laws, for the function that prints
+pub ruleset printing = (exact, reads_back)

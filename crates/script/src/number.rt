@@ -21,7 +21,7 @@ fn with_digit(value: u64, b: u8) -> Option<u64>
 }
 
 // The number that the bytes of a word are.
-#[tactic(auto, using(crate::proofs::Laws::no_byte, crate::proofs::Laws::read_none, crate::proofs::Laws::read_more, crate::proofs::Laws::read_bad, crate::proofs::Laws::read_all))]
+#[tactic(auto, using(crate::proofs::Laws::reading))]
 pub fn number_of(word: &[u8]) -> Option<u64>
     ensures { result ≡ number_of word.now }
 {
@@ -36,7 +36,7 @@ pub fn number_of(word: &[u8]) -> Option<u64>
 }
 
 // Puts the decimal digits of n at the start of out, and answers how many there are: those that `{}` writes, and they read back as n.
-#[tactic(auto, using(crate::proofs::Laws::reads_back, crate::proofs::Laws::exact))]
+#[tactic(auto, using(crate::proofs::Laws::printing))]
 pub fn decimal(n: u64, out: &mut [u8; MOST_DIGITS]) -> usize
     ensures within { IsPrefixLen result out.new }
     ensures reads_back { number_of (take result out.new) ≡ Some n }
