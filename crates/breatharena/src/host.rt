@@ -13,6 +13,7 @@ const GARBAGE: u64 = 0xA5A5_A5A5_A5A5_A5A5;
 // The bits of a cell.
 const CELL_BITS: u64 = 64;
 
+// The host of one arena at a time.
 #[derive(Drop)]
 pub struct Host {
     table: [u64; TABLE_CELLS],

@@ -16,6 +16,7 @@ pub fn fail(rt: &impl Eprint, what: &str, why: io::Error) {
     let _ = eprintln!(rt; "{what}: {why}");
 }
 
+// Standard output, and the answers that wait to be written there. A failure is told on standard error.
 #[derive(Drop)]
 pub struct Output<'a, R: Print + Eprint + Drop> {
     rt: &'a R,
@@ -63,6 +64,7 @@ impl<'a, R: Print + Eprint + Drop> Output<'a, R> {
     }
 }
 
+// Never fails: what can't be written is told on standard error.
 impl<R: Print + Eprint + Drop> fmt::Write for Output<'_, R> {
     fn write_str(&mut self, s: &str) -> fmt::Result {
         self.put(s.as_bytes());

@@ -14,6 +14,7 @@ const LINE_BYTES: usize = 4096;
 // The most that one read takes.
 const INPUT_BYTES: usize = 65536;
 
+// The player of one script.
 #[derive(Drop)]
 pub struct Player<'a, R: Print + Eprint + Drop> {
     host: Host,
@@ -49,8 +50,8 @@ impl<'a, R: Print + Eprint + Drop> Player<'a, R> {
     // Plays the lines that end in some bytes of the script, and keeps what follows the last of them.
     fn feed(&mut self, bytes: &[u8]) -> Result<(), Stopped> {
         for b in bytes {
-            let taken = self.take_in(*b);
-            self.tell(taken)?;
+            let played = self.feed_byte(*b);
+            self.tell(played)?;
         }
         Ok(())
     }
@@ -65,7 +66,7 @@ impl<'a, R: Print + Eprint + Drop> Player<'a, R> {
     }
 
     // Takes in one byte of the script: the line's end, or one more byte of the line.
-    fn take_in(&mut self, b: u8) -> Result<(), Expected> {
+    fn feed_byte(&mut self, b: u8) -> Result<(), Expected> {
         if b == NEWLINE {
             return self.end_line();
         }
@@ -84,7 +85,8 @@ impl<'a, R: Print + Eprint + Drop> Player<'a, R> {
         Ok(())
     }
 
-    // Plays the line that was read. Its answer line is the request as it was written, with blanks made single, a colon, and the answer.
+    // Plays the line that was read. Its answer line is the request as it was written, with blanks made single, a colon, and
+    // the answer.
     fn play_line(&mut self) -> Result<(), Expected> {
         let line = script::parse(self.line.as_slice()).ok_or(Expected::Line)?;
         if let Some(answer) = self.host.play(line)? {
