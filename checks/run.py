@@ -170,7 +170,7 @@ LISTS = {
     "serve_both": {"requests", "a", "b"},
 }
 # The player is the host that lends the table, and no part of the library: it has the table, fills it with garbage and flips bits on purpose.
-HOST_FUNCTIONS = {"breatharena::play_input", "breatharena::play::fill", "breatharena::play::flip"}
+HOST_FUNCTIONS = {"breatharena::host::Host::enter", "breatharena::host::Host::flip"}
 
 
 def all_code():

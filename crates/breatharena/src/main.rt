@@ -6,88 +6,33 @@
 #![tactic(auto)]
 
 mod answer;
+mod buffer;
+mod host;
 mod output;
 mod play;
-mod state;
 
-use output::{fail, written};
-use play::{feed, last_line};
-use state::{GARBAGE, Run};
+use output::fail;
+use play::Player;
 use std::io::Read;
 use std::rt::Files;
 use std::{env, fs};
 
-// The longest line, without the newline that ends it.
-const LINE_BYTES: usize = 4096;
-
-// The cells of the longest table that is lent: three for each page of an arena of 2^12 pages.
-const TABLE_CELLS: usize = 12288;
-
-// The most that one read takes.
-const INPUT_BYTES: usize = 65536;
-
-// Answers are written when so many bytes of them wait, and before each read.
-const OUTPUT_BYTES: usize = 65536;
-
 // The program and one argument.
 const MOST_ARGUMENTS: usize = 2;
 
-// Reads once and plays the lines that end in what came, or, where the input ended, what is left of a last line.
-fn play_some(
-    rt: &(impl Print + Eprint),
-    input: &mut impl Read,
-    name: &str,
-    line: &mut [u8],
-    table: &mut [u64],
-    out: &mut [u8],
-    run: Run,
-) -> Run {
-    let mut piece = [0u8; INPUT_BYTES];
-    match input.read(&mut piece) {
-        Err(why) => {
-            fail(rt, name, why);
-            run.stopped()
-        }
-        Ok(0) => {
-            let last = last_line(rt, line, table, out, run);
-            written(rt, out, last)
-        }
-        Ok(n) => {
-            let played = feed(rt, &piece[..n], line, table, out, run);
-            written(rt, out, played)
-        }
-    }
-}
-
-// Plays to the end of the input. A proved loop has to end, and nothing says that the input does: so the loop counts its
-// turns, up to a number that no run uses up.
-fn play_all(
-    rt: &(impl Print + Eprint),
-    input: &mut impl Read,
-    name: &str,
-    line: &mut [u8],
-    table: &mut [u64],
-    out: &mut [u8],
-) {
-    let mut run = Run::new();
+// Plays an open input to its end. The name is for a message. A proved loop has to end, and nothing says that the input
+// does: so the loop counts its turns, up to a number that no run uses up.
+fn play_input(rt: &(impl Print + Eprint + Drop), input: &mut impl Read, name: &str) {
+    let mut player = Player::new(rt);
     for _ in 0..u64::MAX {
-        run = play_some(rt, input, name, line, table, out, run);
-        if !run.on {
+        if player.play_some(input, name).is_err() {
             return;
         }
     }
 }
 
-// Plays an open input, over a table that holds garbage. The name is for a message.
-fn play_input(rt: &(impl Print + Eprint), input: &mut impl Read, name: &str) {
-    let mut line = [0u8; LINE_BYTES];
-    let mut table = [GARBAGE; TABLE_CELLS];
-    let mut out = [0u8; OUTPUT_BYTES];
-    play_all(rt, input, name, &mut line, &mut table, &mut out);
-}
-
 // Plays the file of that name.
-fn play_file(rt: &(impl Files + Print + Eprint), path: &str) {
+fn play_file(rt: &(impl Files + Print + Eprint + Drop), path: &str) {
     match fs::open(rt, path) {
         Ok(mut file) => play_input(rt, &mut file, path),
         Err(why) => fail(rt, path, why),

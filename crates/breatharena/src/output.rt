@@ -1,72 +1,73 @@
 // Answers on their way to standard output, in a buffer that is written when it is full and before each read.
-ghost use Rattle.script.specs.Counts.{IsPrefixLen};
+ghost use Rattle.std.specs.Prelude.{◌≡◌, ◌<◌, [], length};
 
-use crate::state::Run;
-use script::MOST_DIGITS;
-use std::io;
+use crate::buffer::Buffer;
+use std::{fmt, io};
 
-pub const NEWLINE: u8 = b'\n';
+// Answers are written when so many bytes of them wait, and before each read.
+const OUTPUT_BYTES: usize = 65536;
 
-pub const SPACE: u8 = b' ';
-
-// A number of bytes of s: n, or all where s has fewer.
-pub fn at_most(n: usize, s: &[u8]) -> usize
-    ensures { IsPrefixLen result s.now }
-{
-    if n < s.len() { n } else { s.len() }
-}
+// The player is not to go on, and what there was to say is said.
+#[derive(Clone, Copy)]
+pub struct Stopped;
 
 // Says on standard error what failed, and why. Where that fails too, there is nowhere left to say so.
 pub fn fail(rt: &impl Eprint, what: &str, why: io::Error) {
     let _ = eprintln!(rt; "{what}: {why}");
 }
 
-// Writes the first `waiting` bytes of out. Where that fails it says so on standard error, and answers false.
-fn flush(rt: &(impl Print + Eprint), out: &[u8], waiting: usize) -> bool {
-    let n = at_most(waiting, out);
-    match rt.write_all(&out[..n]) {
-        Ok(()) => true,
-        Err(why) => {
-            fail(rt, "standard output", why);
-            false
+// Standard output, and the answers that wait to be written there. A failure is told on standard error.
+#[derive(Drop)]
+pub struct Output<'a, R: Print + Eprint + Drop> {
+    rt: &'a R,
+    waiting: Buffer<OUTPUT_BYTES>,
+}
+
+impl<'a, R: Print + Eprint + Drop> Output<'a, R> {
+    pub fn new(rt: &'a R) -> Self {
+        Self {
+            rt,
+            waiting: Buffer::new(),
+        }
+    }
+
+    // Writes what waits. Where that fails it says so on standard error, and nothing waits any more either.
+    pub fn flush(&mut self) -> Result<(), Stopped>
+        ensures { self.new.waiting ≡ [] }
+    {
+        let written = self.rt.write_all(self.waiting.as_slice());
+        self.waiting.clear();
+        written.map_err(|why| self.fail("standard output", why))
+    }
+
+    // Says on standard error what failed, and why. Nothing more is to be played.
+    pub fn fail(&self, what: &str, why: io::Error) -> Stopped {
+        fail(self.rt, what, why);
+        Stopped
+    }
+
+    // Writes what waits where there is no room for a byte more. Where that fails the player still goes on to the next read.
+    fn make_room(&mut self)
+        ensures { length self.new.waiting < 65536 }
+    {
+        if self.waiting.is_full() {
+            let _ = self.flush();
+        }
+    }
+
+    // Puts some bytes behind those that wait.
+    pub fn put(&mut self, bytes: &[u8]) {
+        for b in bytes {
+            self.make_room();
+            self.waiting.push(*b);
         }
     }
 }
 
-// Writes what waits. Where that fails the player is not to go on.
-pub fn written(rt: &(impl Print + Eprint), out: &[u8], run: Run) -> Run {
-    let is_written = flush(rt, out, run.waiting);
-    let mut next = run;
-    next.waiting = 0;
-    if is_written { next } else { next.stopped() }
-}
-
-// Puts a byte behind the first `waiting` bytes of out, and answers how many wait then. A full buffer is written first.
-pub fn put_byte(rt: &(impl Print + Eprint), out: &mut [u8], waiting: usize, b: u8) -> usize {
-    if waiting < out.len() {
-        out[waiting] = b;
-        return waiting + 1;
+// Never fails: what can't be written is told on standard error.
+impl<R: Print + Eprint + Drop> fmt::Write for Output<'_, R> {
+    fn write_str(&mut self, s: &str) -> fmt::Result {
+        self.put(s.as_bytes());
+        Ok(())
     }
-    flush(rt, out, waiting);
-    if 0 < out.len() {
-        out[0] = b;
-        return 1;
-    }
-    0
-}
-
-// Puts all of some bytes there.
-pub fn put(rt: &(impl Print + Eprint), out: &mut [u8], waiting: usize, bytes: &[u8]) -> usize {
-    let mut n = waiting;
-    for b in bytes {
-        n = put_byte(rt, out, n, *b);
-    }
-    n
-}
-
-// Puts a number's decimal digits there.
-pub fn put_number(rt: &(impl Print + Eprint), out: &mut [u8], waiting: usize, n: u64) -> usize {
-    let mut digits = [0u8; MOST_DIGITS];
-    let k = script::decimal(n, &mut digits);
-    put(rt, out, waiting, &digits[..k])
 }

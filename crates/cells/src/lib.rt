@@ -2,15 +2,12 @@
 // "Section" is one of document 01.
 #![tactic(auto)]
 
-mod lent;
-
-ghost use Rattle.std.specs.Prelude.{◌≡◌, cond, false, true, ◌+◌, ◌-◌, ◌<◌, ◌^◌, ◌≤◌, eqb, MatchOption};
+ghost use Rattle.std.specs.Prelude.{◌≡◌, cond, false, true, ◌+◌, ◌-◌, ◌<◌, ◌^◌, ◌≤◌, eqb, get_or, length, set, MatchOption};
 ghost use Rattle.std.specs.Int.Bits.{bit_or};
 ghost use Rattle.digits.specs.Digits.{First, bit_at, ones};
 ghost use Rattle.cells.specs.Tags.{Says};
 ghost use Rattle.cells.specs.Cell.{has_room_for, has_size, joined, mask_digits, open_count, packed, room_in, room_span, tag_in, whole_tag};
 
-pub use lent::{Cells, Table};
 use terms::Size;
 
 // The fields of a cell: room + ROOM_SPAN * (tag + TAG_SPAN * mask). What they mean is in specs/Cell.antt.
@@ -22,6 +19,38 @@ const MASK_UNIT: u64 = ROOM_SPAN * TAG_SPAN;
 
 // The tag of a node that is one large live block.
 const WHOLE_TAG: u64 = 63;
+
+// ---- the table: every access is counted (section 5)
+
+// One access more.
+fn count(spent: &mut u64)
+    requires { spent.old < 2 ^ 32 }
+    ensures { spent.new ≡ spent.old + 1 }
+{
+    *spent += 1;
+}
+
+// The cell at a place. One access.
+pub fn get(t: &[u64], at: usize, spent: &mut u64) -> u64
+    requires inside { at < length t.now }
+    requires countable { spent.old < 2 ^ 32 }
+    ensures read { result ≡ get_or t.now at 0 }
+    ensures counted { spent.new ≡ spent.old + 1 }
+{
+    count(spent);
+    t[at]
+}
+
+// The cell at a place becomes v, and no other changes. One access.
+pub fn put(t: &mut [u64], at: usize, v: u64, spent: &mut u64)
+    requires inside { at < length t.old }
+    requires countable { spent.old < 2 ^ 32 }
+    ensures written { t.new ≡ set t.old at v }
+    ensures counted { spent.new ≡ spent.old + 1 }
+{
+    count(spent);
+    t[at] = v;
+}
 
 // ---- a bitmap: digit i is 1 where slot i is not live (section 2)
 

@@ -1,16 +1,42 @@
 // The table of an arena, exactly as long as it has to be: what every request works on.
-ghost use Rattle.std.specs.Prelude.{◌≡◌, ◌*◌, ◌^◌, length};
+ghost use Rattle.std.specs.Prelude.{◌≡◌, List, ℕ, ◌*◌, ◌^◌, length};
 ghost use Rattle.table.specs.Table.{need};
 
 use crate::{Tagged, Wanted, down, locate, map_of, up};
-use cells::{Cells, Table};
+use cells::{get, put};
 use terms::Arena;
 
+// What may be lent: cells, as a list.
+pub trait Cells: Drop {
+    ghost list: { Self → List ℕ };
+
+    fn shown(&self) -> &[u64]
+        ensures { result.now ≡ list self.now };
+}
+
+impl<'a> Cells for &'a [u64] {
+    ghost list = { λ cells. cells.now };
+
+    fn shown(&self) -> &[u64] {
+        self
+    }
+}
+
+impl<'a> Cells for &'a mut [u64] {
+    ghost list = { λ cells. cells.now };
+
+    fn shown(&self) -> &[u64] {
+        self
+    }
+}
+
+// The cells that an arena needs, and the accesses to them. Nothing else reaches a cell or the count.
 #[derive(Drop)]
 pub struct Book<C: Cells> {
-    table: Table<C>,
+    cells: C,
+    spent: u64,
     pub arena: Arena,
-    pub ghost whole: { length (C.list table.cells) ≡ need arena.m },
+    pub ghost whole: { length (C.list cells) ≡ need arena.m },
 }
 
 // A book that may be written, and one that is only read.
@@ -27,12 +53,13 @@ impl<C: Cells> Book<C> {
     // No access yet.
     pub fn new(cells: C, arena: Arena) -> Book<C>
         requires { length (C.list cells) ≡ need arena.m }
-        ensures same_cells { result.table.cells ≡ cells }
+        ensures same_cells { result.cells ≡ cells }
         ensures same_arena { result.arena ≡ arena }
         ensures none_spent { spent_of result ≡ 0 }
     {
         Book {
-            table: Table::new(cells),
+            cells,
+            spent: 0,
             arena,
         }
     }
@@ -40,7 +67,7 @@ impl<C: Cells> Book<C> {
     pub fn spent(&self) -> u64
         ensures { result ≡ spent_of self.now }
     {
-        self.table.spent()
+        self.spent
     }
 
     // The cell at a place. One access.
@@ -51,7 +78,7 @@ impl<C: Cells> Book<C> {
         ensures read { result ≡ get_or (cells_of self.old) at 0 }
         ensures counted { spent_of self.new ≡ spent_of self.old + 1 }
     {
-        self.table.get(at)
+        get(self.cells.shown(), at, &mut self.spent)
     }
 
     // The way down from the root.
@@ -62,7 +89,7 @@ impl<C: Cells> Book<C> {
         ensures kept { IsKept self.old self.new }
         ensures reached { Descended levels what (cells_of self.old) result (spent_of self.old) (spent_of self.new) }
     {
-        down(&mut self.table, levels, what)
+        down(self.cells.shown(), levels, what, &mut self.spent)
     }
 
     // The way up from a leaf to the first node with a tag.
@@ -72,7 +99,7 @@ impl<C: Cells> Book<C> {
         ensures kept { IsKept self.old self.new }
         ensures found { MatchOption result (Untagged (cells_of self.old) self.old.arena.m leaf (spent_of self.old) (spent_of self.new)) (λ found. Located (cells_of self.old) self.old.arena.m leaf found (spent_of self.old) (spent_of self.new)) }
     {
-        locate(&mut self.table, self.arena, leaf)
+        locate(self.cells.shown(), self.arena, leaf, &mut self.spent)
     }
 }
 
@@ -80,6 +107,17 @@ impl<'a> Book<&'a mut [u64]> {
     ghost use Rattle.std.specs.Prelude.{◌+◌, ◌<◌, ◌≤◌, set};
     ghost use Rattle.walks.specs.Books.{IsSameBook, cells_of, spent_of};
     ghost use Rattle.walks.specs.Posts.{LeafPut, NodePut};
+
+    // The same, to be written: what was lent ends as the book's cells.
+    pub fn over(cells: &'a mut [u64], arena: Arena) -> Book<&'a mut [u64]>
+        requires { length cells.old ≡ need arena.m }
+        ensures same_lender { result.cells.ghost_name ≡ cells.entry.ghost_name }
+        ensures same_cells { cells_of result ≡ cells.old }
+        ensures same_arena { result.arena ≡ arena }
+        ensures none_spent { spent_of result ≡ 0 }
+    {
+        Book::new(cells, arena)
+    }
 
     // The cell at a place becomes v, and no other changes. One access.
     pub fn put(&mut self, at: usize, v: u64)
@@ -89,7 +127,7 @@ impl<'a> Book<&'a mut [u64]> {
         ensures written { cells_of self.new ≡ set (cells_of self.old) at v }
         ensures counted { spent_of self.new ≡ spent_of self.old + 1 }
     {
-        self.table.put(at, v);
+        put(self.cells, at, v, &mut self.spent);
     }
 
     // A cell stored at the node v of a height, and the nodes above it mended.
@@ -100,8 +138,8 @@ impl<'a> Book<&'a mut [u64]> {
         ensures same_book { IsSameBook self.old self.new }
         ensures put { NodePut self.old.arena.m v height cell (cells_of self.old) (cells_of self.new) (spent_of self.old) (spent_of self.new) }
     {
-        self.table.put(v, cell);
-        up(&mut self.table, self.arena, v, height, cell);
+        put(self.cells, v, cell, &mut self.spent);
+        up(self.cells, self.arena, v, height, cell, &mut self.spent);
     }
 
     // A bitmap and a cell stored at the leaf w, and the nodes above it mended.
@@ -112,7 +150,7 @@ impl<'a> Book<&'a mut [u64]> {
         ensures same_book { IsSameBook self.old self.new }
         ensures put { LeafPut self.old.arena.m w cell bits (cells_of self.old) (cells_of self.new) (spent_of self.old) (spent_of self.new) }
     {
-        self.table.put(map_of(self.arena, w), bits);
+        put(self.cells, map_of(self.arena, w), bits, &mut self.spent);
         self.put_node(w, 0, cell);
     }
 }

@@ -9,8 +9,8 @@ ghost use Rattle.walks.specs.Posts.{Climbed, Descended, Located, Untagged, asked
 
 mod book;
 
-pub use book::{Book, Shown, Written};
-use cells::{Cells, Table, Tag, has_room_for, has_size, join, tag_of};
+pub use book::{Book, Cells, Shown, Written};
+use cells::{Tag, get, has_room_for, has_size, join, put, tag_of};
 use terms::Arena;
 
 // What `down` looks for.
@@ -36,18 +36,17 @@ impl Wanted {
 }
 
 // From the root `levels` down, by the left half where its cell has what is looked for, else by the right: the node that is reached.
-pub fn down<C: Cells>(table: &mut Table<C>, levels: u64, what: Wanted) -> usize
+pub fn down(t: &[u64], levels: u64, what: Wanted, spent: &mut u64) -> usize
     requires what_in_range { asked what < mask_digits }
     requires levels_in_range { levels ≤ m_most }
-    requires nodes_in_table { 2 * 2 ^ levels ≤ length (C.list table.old.cells) }
-    requires few_spent { table.old.spent < 2 ^ 31 }
-    ensures same_cells { table.new.cells ≡ table.old.cells }
-    ensures reached { Descended levels what (C.list table.old.cells) result table.old.spent table.new.spent }
+    requires nodes_in_table { 2 * 2 ^ levels ≤ length t.now }
+    requires few_spent { spent.old < 2 ^ 31 }
+    ensures { Descended levels what t.now result spent.old spent.new }
 {
     let mut v = 1;
     for _d in 0..levels {
         v = 2 * v;
-        if !what.is_in(table.get(v)) {
+        if !what.is_in(get(t, v, spent)) {
             v += 1;
         }
     }
@@ -62,14 +61,13 @@ pub struct Tagged {
 }
 
 // From a leaf upward to the first node with a tag.
-pub fn locate<C: Cells>(table: &mut Table<C>, arena: Arena, leaf: usize) -> Option<Tagged>
-    requires leaf_in_table { leaf < length (C.list table.old.cells) }
-    requires few_spent { table.old.spent < 2 ^ 31 }
-    ensures same_cells { table.new.cells ≡ table.old.cells }
-    ensures found { MatchOption result (Untagged (C.list table.old.cells) arena.m leaf table.old.spent table.new.spent) (λ found. Located (C.list table.old.cells) arena.m leaf found table.old.spent table.new.spent) }
+pub fn locate(t: &[u64], arena: Arena, leaf: usize, spent: &mut u64) -> Option<Tagged>
+    requires leaf_in_table { leaf < length t.now }
+    requires few_spent { spent.old < 2 ^ 31 }
+    ensures { MatchOption result (Untagged t.now arena.m leaf spent.old spent.new) (λ found. Located t.now arena.m leaf found spent.old spent.new) }
 {
     for height in 0..=arena.m {
-        let cell = table.get(node_above(leaf, height));
+        let cell = get(t, node_above(leaf, height), spent);
         if let Some(tag) = tag_of(cell) {
             return Some(Tagged { height, tag });
         }
@@ -94,22 +92,21 @@ fn sibling(v: usize) -> usize
 }
 
 // From the node `at` of a height, whose cell has the value x, to the root: each node above it becomes the join of its halves.
-pub fn up(table: &mut Table<&mut [u64]>, arena: Arena, at: usize, height: u64, value: u64)
+pub fn up(t: &mut [u64], arena: Arena, at: usize, height: u64, value: u64, spent: &mut u64)
     requires height_in_range { height ≤ arena.m }
     requires at_below { at < 2 * 2 ^ arena.m }
-    requires nodes_in_table { 2 * 2 ^ arena.m ≤ length table.old.cells.now }
-    requires value_stored { value ≡ get_or table.old.cells.now at 0 }
-    requires few_spent { table.old.spent < 2 ^ 31 }
-    ensures same_lender { table.new.cells.ghost_name ≡ table.old.cells.ghost_name }
-    ensures climbed { Climbed arena.m at height table.old.cells.now table.new.cells.now table.old.spent table.new.spent }
+    requires nodes_in_table { 2 * 2 ^ arena.m ≤ length t.old }
+    requires value_stored { value ≡ get_or t.old at 0 }
+    requires few_spent { spent.old < 2 ^ 31 }
+    ensures { Climbed arena.m at height t.old t.new spent.old spent.new }
 {
     let mut v = at;
     let mut x = value;
     for h in height..arena.m {
-        let other = table.get(sibling(v));
+        let other = get(t, sibling(v), spent);
         x = join(x, other, h);
         v /= 2;
-        table.put(v, x);
+        put(t, v, x, spent);
     }
 }
 

@@ -5,7 +5,7 @@ use Rattle.check_up.proofs.check_table.Goals as goal
 
 pub returns-then-not-level_sound-clause-verdict : goal.returns-then-not-level_sound-clause-verdict
 returns-then-not-level_sound-clause-verdict c =
-    let cells : c.loop-h.book.table.cells ≡ c.args.book.now.table.cells = cc in
+    let cells : c.loop-h.book.cells ≡ c.args.book.now.cells = cc in
     let arena : c.loop-h.book.arena ≡ c.args.book.now.arena = cc in
     let within : c.loop-h.h ≤ c.loop-h.book.arena.m = rw c.loop-h.invariant.kept.1 c.loop-h-test.true in
     rw (← cells, ← arena) (level_failed within c.if-not-level_sound.ensures.verdict)
@@ -30,6 +30,6 @@ returns-else-not-level_sound-clause-verdict c =
     let kept = c.loop-h.invariant.kept in
     let book = c.args.book.now in
     let read = c.get.ensures.kept in
-    let spare : get_or book.table.cells.now 0 0 ≡ 0 = cc in
+    let spare : get_or book.cells.now 0 0 ≡ 0 = cc in
     let sound = rw (read.0, read.1) at (level_passed c.loop-h.invariant.sound (rw (kept.0, kept.1) at c.if-not-level_sound.ensures.verdict)) in
     levels_passed _ _ (c.loop-h.h + 1) book.arena.in_range book.whole spare (let same : c.get.new.self.arena.m ≡ book.arena.m = cc in omega arith) sound

@@ -16,7 +16,7 @@ get-cell-requires-clause-inside c =
 pub returns-then-h-eq0-clause-verdict : goal.returns-then-h-eq0-clause-verdict
 returns-then-h-eq0-clause-verdict c =
     let book = c.args.book.now in
-    cc (sound_at_leaf book.table.cells.now (2 ^ book.arena.m) c.args.v)
+    cc (sound_at_leaf book.cells.now (2 ^ book.arena.m) c.args.v)
 
 pub get-left-requires-clause-inside : goal.get-left-requires-clause-inside
 get-left-requires-clause-inside c =
@@ -34,4 +34,4 @@ pub returns-else-h-eq0-clause-verdict : goal.returns-else-h-eq0-clause-verdict
 returns-else-h-eq0-clause-verdict c =
     let book = c.args.book.now in
     let above : c.args.h - 1 + 1 ≡ c.args.h = omega arith in
-    cc (above, sound_at_node book.table.cells.now (2 ^ book.arena.m) (c.args.h - 1) c.args.v)
+    cc (above, sound_at_node book.cells.now (2 ^ book.arena.m) (c.args.h - 1) c.args.v)

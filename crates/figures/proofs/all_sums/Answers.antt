@@ -7,7 +7,7 @@ use Rattle.figures.proofs.all_sums.Goals as goal
 
 pub add_assign-requires : goal.add_assign-requires
 add_assign-requires c =
-    let t = c.args.book.now.table.cells.now in
+    let t = c.args.book.now.cells.now in
     let m = c.args.book.now.arena.m in
     let h = c.loop-h.h in
     let few = c.args.book.now.arena.in_range in
@@ -29,7 +29,7 @@ loop-h-preserved c =
 
 pub returns-2-clause-few : goal.returns-2-clause-few
 returns-2-clause-few c =
-    let t = c.args.book.now.table.cells.now in
+    let t = c.args.book.now.cells.now in
     let m = c.args.book.now.arena.m in
     let held : c.add_assign.new.self.held ≡ levels_sum (node_held t) m (m + 1) = grind (arith, levels_next) in
     omega (arith, levels_held_le t m (m + 1) (omega arith))

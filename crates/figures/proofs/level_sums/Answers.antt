@@ -5,7 +5,7 @@ use Rattle.figures.proofs.level_sums.Goals as goal
 
 pub add_assign-requires : goal.add_assign-requires
 add_assign-requires c =
-    let t = c.args.book.now.table.cells.now in
+    let t = c.args.book.now.cells.now in
     let m = c.args.book.now.arena.m in
     let few = c.args.book.now.arena.in_range in
     let h = c.args.h in

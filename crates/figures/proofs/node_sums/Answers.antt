@@ -12,12 +12,12 @@ get-requires-clause-inside c = omega (arith, node_below c.args.book.now.arena.m 
 pub returns-in-Some-Whole : goal.returns-in-Some-Whole
 returns-in-Some-Whole c =
     let says = rw c.in-Some-Whole.field-0-is at c.in-Some-Whole.ensures in
-    let node = node_whole c.args.book.now.table.cells.now (2 ^ c.args.book.now.arena.m) c.args.h c.args.v c.get.result c.get.ensures.read says in
+    let node = node_whole c.args.book.now.cells.now (2 ^ c.args.book.now.arena.m) c.args.h c.args.v c.get.result c.get.ensures.read says in
     record { kept = search rules; live = c.run_bytes-live.ensures ∙ node.0; held = omega (arith, c.run_bytes-live.ensures, node.1); cost = omega arith }
 
 pub returns-in-Some-Page : goal.returns-in-Some-Page
 returns-in-Some-Page c =
-    let t = c.args.book.now.table.cells.now in
+    let t = c.args.book.now.cells.now in
     let says = rw c.in-Some-Page.field-0-is at c.in-Some-Page.ensures in
     let bits : c.get-bits.result ≡ get_or t (c.args.v + 2 ^ c.args.book.now.arena.m) 0 = cc in
     let node = node_cut t (2 ^ c.args.book.now.arena.m) c.args.h c.args.v c.get.result c.get.ensures.read c.in-Some-Page.size c.get-bits.result c.if-h-eq0.true says bits in
@@ -32,5 +32,5 @@ returns-in_default c =
       | in_default-via-in-Some+in_default w ↦ (λ e. cc, λ size e z. cc)
       | in_default-via-in_default w ↦ (λ e. cc, λ size e z. cc)
     ] in
-    let node = node_none c.args.book.now.table.cells.now (2 ^ c.args.book.now.arena.m) c.args.h c.args.v c.get.result c.get.ensures.read told c.tag_of.ensures other.0 other.1 in
+    let node = node_none c.args.book.now.cells.now (2 ^ c.args.book.now.arena.m) c.args.h c.args.v c.get.result c.get.ensures.read told c.tag_of.ensures other.0 other.1 in
     record { kept = search rules; live = cc; held = cc; cost = omega arith }

@@ -28,7 +28,7 @@ put_node-requires-clause-v_below c =
 pub returns-clause-took : goal.returns-clause-took
 returns-clause-took c =
     let way = rw (c.get.ensures.kept.0, c.get.ensures.kept.1) at c.down-v.ensures.reached in
-    let same : c.get-2.new.self.table.cells ≡ c.args.book.now.table.cells = cc in
+    let same : c.get-2.new.self.cells ≡ c.args.book.now.cells = cc in
     let same_arena : c.get-2.new.self.arena ≡ c.args.book.now.arena = cc in
     let put = rw (same, same_arena, c.whole_cell.ensures) at c.put_node.ensures.put in
     let place = rw (c.put_node.ensures.same_book.1, same_arena) at c.run_offset.ensures in

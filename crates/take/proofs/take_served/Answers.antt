@@ -15,7 +15,7 @@ returns-in_err-i-clause-took c =
 
 pub returns-clause-took : goal.returns-clause-took
 returns-clause-took c =
-    let same : c.get-bits.new.self.table.cells ≡ c.args.book.now.table.cells = cc in
+    let same : c.get-bits.new.self.cells ≡ c.args.book.now.cells = cc in
     let same_arena : c.get-bits.new.self.arena ≡ c.args.book.now.arena = cc in
     let put = rw (same, same_arena, c.page_cell.ensures) at c.put_leaf.ensures.put in
     let place = rw (c.put_leaf.ensures.same_book.1, same_arena) at c.slot_offset.ensures in

@@ -6,10 +6,9 @@ use Rattle.walks.specs.Posts.{wants}
 use Rattle.walks.proofs.down.Given as goal
 
 abbrev pub invariant-loop-d : goal.invariant-loop-d
-invariant-loop-d g l = record {
+invariant-loop-d l = record {
   from : 2 ^ l._d ≤ l.v;
   to : l.v < 2 * 2 ^ l._d;
-  same : l.table.cells ≡ l.initial.table.cells;
-  counted : l.table.spent ≡ l.initial.table.spent + l._d;
-  way : descended (wants l.what) (l.levels - l._d) (g.C.Cells.list l.table.cells) l.v ≡ descended (wants l.what) l.levels (g.C.Cells.list l.initial.table.cells) 1;
+  counted : l.spent ≡ l.initial.spent + l._d;
+  way : descended (wants l.what) (l.levels - l._d) l.t l.v ≡ descended (wants l.what) l.levels l.t 1;
 }

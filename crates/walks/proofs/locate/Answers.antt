@@ -1,4 +1,4 @@
-use Rattle.std.proofs.Common.{arith, ◌^◌, ◌≡◌, ap, get_or, length, subst, sym, ◌∙◌}
+use Rattle.std.proofs.Common.{arith, ◌^◌, ◌≡◌, ap, get_or, subst, sym, ◌∙◌}
 use Rattle.std.proofs.Math.Nat.{div-le_self}
 use Rattle.cells.specs.Cell.{tag_in}
 use Rattle.cells.specs.Tags.{Says}
@@ -8,30 +8,27 @@ use Rattle.walks.proofs.Tags.{tagged}
 use Rattle.walks.proofs.locate.Goals as goal
 
 pub get-cell-requires-clause-inside : goal.get-cell-requires-clause-inside
-get-cell-requires-clause-inside g c =
-    let long = ap (λ cells. length (g.C.Cells.list cells)) c.loop-height.invariant.same in
+get-cell-requires-clause-inside c =
     let below = div-le_self c.args.leaf (2 ^ c.loop-height.height) in
     omega (arith, above_div c.loop-height.height c.args.leaf)
 
-pub returns-in-Some-clause-found : goal.returns-in-Some-clause-found
-returns-in-Some-clause-found g c =
+pub returns-in-Some : goal.returns-in-Some
+returns-in-Some c =
     let h = c.loop-height.height in
-    let read : c.get-cell.result ≡ get_or (g.C.Cells.list c.args.table.now.cells) (above h c.args.leaf) 0 = cc in
-    let says : Says c.in-Some.tag (tag_in (get_or (g.C.Cells.list c.args.table.now.cells) (above h c.args.leaf) 0)) = subst (λ x. Says c.in-Some.tag (tag_in x)) read c.in-Some.ensures in
+    let read : c.get-cell.result ≡ get_or c.args.t.now (above h c.args.leaf) 0 = cc in
+    let says : Says c.in-Some.tag (tag_in (get_or c.args.t.now (above h c.args.leaf) 0)) = subst (λ x. Says c.in-Some.tag (tag_in x)) read c.in-Some.ensures in
     record {
-      exact = sym (located_here _ _ (above h c.args.leaf) h (omega arith) (tagged _ _ says)) ∙ (rw c.loop-height.invariant.same at c.loop-height.invariant.way);
+      exact = sym (located_here _ _ (above h c.args.leaf) h (omega arith) (tagged _ _ says)) ∙ c.loop-height.invariant.way;
       tag = says;
       within = omega arith;
       cost = omega arith;
     }
 
 pub loop-height-preserved : goal.loop-height-preserved
-loop-height-preserved g c =
+loop-height-preserved c =
     let h = c.loop-height.height in
-    let read : c.get-cell.result ≡ get_or (g.C.Cells.list c.args.table.now.cells) (above h c.args.leaf) 0 = cc in
-    let same : c.get-cell.new.self.cells ≡ c.args.table.now.cells = cc in
+    let read : c.get-cell.result ≡ get_or c.args.t.now (above h c.args.leaf) 0 = cc in
     record {
-      same = same;
       counted = omega arith;
-      way = rw (same, above_next h c.args.leaf) (sym (located_turn _ _ (above h c.args.leaf) h (omega arith) (ap tag_in (sym read) ∙ c.in_default.ensures)) ∙ (rw c.loop-height.invariant.same at c.loop-height.invariant.way));
+      way = rw (above_next h c.args.leaf) (sym (located_turn _ _ (above h c.args.leaf) h (omega arith) (ap tag_in (sym read) ∙ c.in_default.ensures)) ∙ c.loop-height.invariant.way);
     }

@@ -4,8 +4,7 @@ use Rattle.table.specs.Walks.{above, located}
 use Rattle.walks.proofs.locate.Given as goal
 
 abbrev pub invariant-loop-height : goal.invariant-loop-height
-invariant-loop-height g l = record {
-  same : l.table.cells ≡ l.initial.table.cells;
-  counted : l.table.spent ≡ l.initial.table.spent + l.height;
-  way : located (l.fn.arena.m + 1 - l.height) (g.C.Cells.list l.table.cells) (above l.height l.leaf) l.height ≡ located (suc l.fn.arena.m) (g.C.Cells.list l.initial.table.cells) l.leaf 0;
+invariant-loop-height l = record {
+  counted : l.spent ≡ l.initial.spent + l.height;
+  way : located (l.fn.arena.m + 1 - l.height) l.t (above l.height l.leaf) l.height ≡ located (suc l.fn.arena.m) l.t l.leaf 0;
 }

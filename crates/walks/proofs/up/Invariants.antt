@@ -6,9 +6,8 @@ use Rattle.walks.proofs.up.Given as goal
 abbrev pub invariant-loop-h : goal.invariant-loop-h
 invariant-loop-h l = record {
   small : l.v < 2 * 2 ^ l.fn.arena.m;
-  lender : l.table.cells.ghost_name ≡ l.initial.table.cells.ghost_name;
-  long : length l.table.cells.now ≡ length l.initial.table.cells.now;
-  counted : l.table.spent ≡ l.initial.table.spent + 2 * (l.h - l.height);
-  own : l.x ≡ get_or l.table.cells.now l.v 0;
-  way : climbed (l.fn.arena.m - l.h) l.table.cells.now l.v l.h ≡ climbed (l.fn.arena.m - l.height) l.initial.table.cells.now l.at l.height;
+  long : length l.t ≡ length l.initial.t;
+  counted : l.spent ≡ l.initial.spent + 2 * (l.h - l.height);
+  own : l.x ≡ get_or l.t l.v 0;
+  way : climbed (l.fn.arena.m - l.h) l.t l.v l.h ≡ climbed (l.fn.arena.m - l.height) l.initial.t l.at l.height;
 }

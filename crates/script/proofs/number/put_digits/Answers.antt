@@ -1,39 +1,18 @@
-use Rattle.std.proofs.Common.{◌≡◌, ℕ, zero, suc, ◌+◌, ◌-◌, ◌/◌, ◌%◌, ◌<◌, ◌≤◌, List, [], ◌∷◌, ◌++◌, length, take, drop, set, refl, sym, ap, subst, ◌∙◌, append-nil, length-set, length-take-le, le_refl, le_of_suc-le-suc, not-suc-le-zero, sub-one, arith}
-use Rattle.std.proofs.Math.Seq.{slice, slice_empty, take-set-lt, append_snoc}
+use Rattle.std.proofs.Common.{◌≡◌, ℕ, zero, suc, ◌+◌, ◌-◌, ◌/◌, ◌%◌, ◌<◌, ◌≤◌, List, ◌++◌, length, take, set, ◌∙◌, append_assoc, length-take-le, not-suc-le-zero, sub-one, add-one, arith}
+use Rattle.std.proofs.lemmas.List.{drop-set}
+use Rattle.std.proofs.Math.Seq.{slice, take-set-lt}
 use Rattle.script.specs.Decimal.{last_digits}
 use Rattle.script.proofs.number.put_digits.Goals as goal
 
--- after a store at j, the list from j on begins with what was stored
-drop-set : (t : List ℕ) (j g : ℕ) → j < length t → drop j (set t j g) ≡ g ∷ drop (suc j) t
-drop-set [] j g h = absurd (not-suc-le-zero h)
-drop-set (x ∷ xs) zero g h = refl
-drop-set (x ∷ xs) (suc j) g h = drop-set xs j g (le_of_suc-le-suc h)
-
 -- a turn moves the last of the digits that are still to write to the front of those that are written
-digits_step : (i k rest g : ℕ) (out : List ℕ) → 0 < i → i ≤ k → k ≤ length out → g ≡ 48 + rest % 10
-    → last_digits (i - 1) (rest / 10) ++ slice (i - 1) k (set out (i - 1) g) ≡ last_digits i rest ++ slice i k out
-digits_step zero k rest g out some h room e = absurd (not-suc-le-zero some)
-digits_step (suc j) k rest g out some h room e =
-    let todo = last_digits j (rest / 10) in
-    let done = slice (suc j) k out in
-    let within : j < length (take k out) = subst (λ (n : ℕ). j < n) (sym (length-take-le k out room)) h in
-    ap (λ (m : ℕ). last_digits m (rest / 10) ++ slice m k (set out m g)) (sub-one (suc j))
-    ∙ ap (λ (l : List ℕ). todo ++ drop j l) (take-set-lt k out j g h)
-    ∙ ap (λ (l : List ℕ). todo ++ l) (drop-set (take k out) j g within)
-    ∙ ap (λ (x : ℕ). todo ++ x ∷ done) e
-    ∙ sym (append_snoc todo (48 + rest % 10) done)
-
-pub loop-i-init : goal.loop-i-init
-loop-i-init c =
-    let a = c.args in
-    let all = last_digits a.k a.n in
-    (refl, le_refl a.k, ap (λ (l : List ℕ). all ++ l) (slice_empty a.k a.out.now) ∙ append-nil all)
+digits_step : (i k rest : ℕ) (out : List ℕ) → 0 < i → i ≤ k → k ≤ length out
+    → last_digits (i - 1) (rest / 10) ++ slice (i - 1) k (set out (i - 1) (48 + rest % 10)) ≡ last_digits i rest ++ slice i k out
+digits_step zero k rest out some h room = absurd (not-suc-le-zero some)
+digits_step (suc j) k rest out some h room =
+    let within : j < length (take k out) = omega (arith, length-take-le k out room) in
+    rw (sub-one (suc j), append_assoc, take-set-lt k out j (48 + rest % 10) h, drop-set (take k out) j (48 + rest % 10) within, add-one)
 
 pub loop-i-preserved : goal.loop-i-preserved
 loop-i-preserved c =
     let l = c.loop-i in
-    let a = c.args in (
-      simp length-set l.invariant.0,
-      omega arith,
-      digits_step l.i a.k l.rest _ l.out (omega arith) l.invariant.1 (omega arith) (omega arith) ∙ l.invariant.2,
-    )
+    digits_step l.i c.args.k l.rest l.out (omega arith) (omega arith) (omega arith) ∙ l.invariant

@@ -1,0 +1,2 @@
+-- What the contracts of the player cite: what an answer is in writing. Assumes nothing.
+pub mod Text
