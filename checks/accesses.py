@@ -1,15 +1,14 @@
-"""No function but those that make an access, the two `Cells::cell` and `Table::put`, reads or writes an element of a slice of u64: so no access to the
-table goes round the count.
+"""No function but `cells::get` and `cells::put` reads or writes an element of a slice of u64: so no access to the table goes round the count.
 
 Works on the code as it is proved and compiled (`mir.py`). There an element of a slice is reached by `offset` from the
 slice's pointer, its field 0, and then by a `deref`. A part of a slice is made by `offset` too, and is not dereferenced. So that no element is
-reached in another way, a slice of u64 stands nowhere but in a local or a parameter of its own, and as the cells of a table or a book, which names
-nobody but `cells`; one that stands by itself came in or is a part of one that did, and is lent to functions that take such a slice, and for the
-cells of a book.
+reached in another way, a slice of u64 stands nowhere but in a local or a parameter of its own, and as the cells of a book; one that stands by itself came in
+or is a part of one that did, and is lent to functions that take such a slice, and for the cells of a book. Slices of a constant, which is no table, are
+free where they are lent to nobody in the program.
 """
 from mir import assigns, calls, given_types, items, kinds, kinds_along, local_of, named, parameters, place_of, strayed, walk
 
-# an example for the check of this check; a function whose name starts with `gets` is one that may make an access, and so are the impls of `Cells` and `put`
+# an example for the check of this check; a function whose name starts with `gets` is one that may make an access
 SAMPLE = """
 pub fn reads(t: &[u64]) -> u64 {
     if 3 < t.len() { t[3] } else { 0 }
@@ -293,48 +292,48 @@ pub fn pairs(t: &[u64]) -> (&[u64], usize) {
 // ---- cells that are lent
 
 pub trait Cells: Drop {
-    fn cell(&self, at: usize) -> u64;
+    fn shown(&self) -> &[u64];
 }
 
 impl<'a> Cells for &'a [u64] {
-    fn cell(&self, at: usize) -> u64 {
-        self[at]
+    fn shown(&self) -> &[u64] {
+        self
     }
 }
 
 impl<'a> Cells for &'a mut [u64] {
-    fn cell(&self, at: usize) -> u64 {
-        self[at] / 2 + self[at] / 2
+    fn shown(&self) -> &[u64] {
+        if self[0] == 7 { self } else { &self[1..] }
     }
 }
 
 #[derive(Drop)]
-pub struct Table<C: Cells> {
+pub struct Book<C: Cells> {
     cells: C,
     spent: u64,
 }
 
-impl<C: Cells> Table<C> {
-    pub fn new(cells: C) -> Table<C> {
-        Table { cells, spent: 0 }
+impl<C: Cells> Book<C> {
+    pub fn new(cells: C) -> Book<C> {
+        Book { cells, spent: 0 }
     }
 
     pub fn get(&self, at: usize) -> u64 {
-        self.cells.cell(at)
+        gets(self.cells.shown(), at)
+    }
+
+    pub fn peek(&self, at: usize) -> u64 {
+        self.cells.shown()[at]
     }
 }
 
-impl<'a> Table<&'a mut [u64]> {
-    pub fn put(&mut self, at: usize, v: u64) {
-        self.cells[at] = v;
+impl<'a> Book<&'a mut [u64]> {
+    pub fn put(&mut self, at: usize) {
+        count(self.cells);
     }
 
     pub fn set(&mut self, at: usize, v: u64) {
         self.cells[at] = v;
-    }
-
-    pub fn cells(&mut self) -> &mut [u64] {
-        self.cells
     }
 }
 
@@ -343,10 +342,10 @@ pub struct Shelf<C: Cells> {
     cells: C,
 }
 
-pub fn makes_a_table(t: &mut [u64]) -> u64 {
-    let mut table = Table::new(&mut t[..3]);
-    table.put(0, 1);
-    table.get(1)
+pub fn makes_a_book(t: &mut [u64]) -> u64 {
+    let mut book = Book::new(&mut t[..3]);
+    book.put(0);
+    book.get(1)
 }
 
 pub fn makes_a_shelf(t: &[u64]) -> usize {
@@ -354,10 +353,27 @@ pub fn makes_a_shelf(t: &[u64]) -> usize {
     3
 }
 
-pub fn makes_a_table_of_an_array() -> u64 {
+pub fn makes_a_book_of_an_array() -> u64 {
     let a: [u64; 4] = [1, 2, 3, 4];
-    let table = Table::new(&a[..]);
-    table.get(1)
+    let book = Book::new(&a[..]);
+    book.get(1)
+}
+
+// ---- a constant
+
+const SIZES: [u64; 3] = [16, 32, 48];
+
+pub fn finds_a_size(n: u64) -> Option<usize> {
+    SIZES.iter().position(|size| n <= *size)
+}
+
+pub fn lends_a_constant() -> usize {
+    count(&SIZES)
+}
+
+pub fn finds_a_size_and_reads(t: &[u64]) -> bool {
+    let x = t.first();
+    SIZES.iter().any(|size| *size == 7)
 }
 """
 # the functions of the example that have lists of requests or answers, each with the numbers of its parameters that are
@@ -407,10 +423,13 @@ FAULTS = {
     "lends_as_any": "lends a slice of u64 to sample::itself",
     "wraps": "has a slice of u64 below the top of a type",
     "pairs": "has a slice of u64 below the top of a type",
-    "RefMutSliceU64Cells::cell": "reaches 2 elements",
-    "Table+mut+slice+u64::set": "reaches 1 elements",
+    "RefMutSliceU64Cells::shown": "reaches 1 elements",
+    "Book::peek": "reaches 1 elements",
+    "Book+mut+slice+u64::set": "reaches 1 elements",
     "makes_a_shelf": "has a slice of u64 below the top of a type",
-    "makes_a_table_of_an_array": "has a slice of u64 that is no part of one that came in",
+    "makes_a_book_of_an_array": "has a slice of u64 that is no part of one that came in",
+    "lends_a_constant": "has a slice of u64 that is no part of one that came in",
+    "finds_a_size_and_reads": "lends a slice of u64 to std::slice+T::first",
 }
 
 
@@ -487,6 +506,7 @@ def origins(body, local, seen=()):
         return set()
     found = {local} if local in parameters(body) else {"an array"} if kind[0] == "tyArray" else set()
     found |= {"a call" for _, _, target in calls(body) if target[1] == local}
+    found |= {"a constant" for node in walk(body[5]) if node[0] == "lendStatic" and node[1][1] == local}
     for target, value in assigns(body):
         if target[1] == local:
             found = found.union(*(origins(body, place[1], (*seen, local)) for place in named(value)))
@@ -502,23 +522,32 @@ def mistaken(body, own, lists):
                 yield called
 
 
-def faults(bodies, accesses, makers, holders, lists, hosts):
-    """Faults of a program: its functions, those that make one access each, those that are lent the cells of a table or a book, the types of these, the
-    numbers of the parameters that are lists of requests or answers, the functions of the host that lends the table.
+def of_a_constant(body, bodies):
+    """Whether all slices of u64 that a function has are of constants, and are lent to nobody in the program."""
+    lent = {one for one, arguments, _ in calls(body) if any(local_of(it) in slices(body) for it in arguments)}
+    return bool(slices(body)) and all(origins(body, one) == {"a constant"} for one in slices(body)) and not lent & set(bodies)
+
+
+def faults(bodies, accesses, makers, shown, holders, lists, hosts):
+    """Faults of a program: its functions, those that make one access each, those that are lent the cells of a book, those that show the cells behind a
+    reference, the types of books, the numbers of the parameters that are lists of requests or answers, the functions of the host that lends the table.
     """
     wrong = []
     for name, body in bodies.items():
+        if body[5] == "return":
+            # what a trait asks of its impls
+            continue
         own = lists.get(name, set())
         found = [f"lends {one} something else than a list of requests or answers" for one in mistaken(body, own, lists)]
         if name in accesses:
             found += access_faults(body)
-        elif not own or own != slices(body) & {*parameters(body)}:
+        elif not (own and own == slices(body) & {*parameters(body)} or of_a_constant(body, bodies)):
             # where all slices that come in are lists, there is no table
             if name not in hosts:
                 found += [f"reaches {reached(body)} elements of a slice of u64"] if reached(body) else []
                 found += ["has a slice of u64 that is no part of one that came in"] if not all(
                     one and one <= {*parameters(body), "a call"} for one in (origins(body, one) for one in slices(body))) else []
-            found += ["has a slice of u64 below the top of a type"] if buried(body, holders) else []
+            found += ["has a slice of u64 below the top of a type"] if buried(body, holders) and name not in shown else []
             found += [f"lends a slice of u64 to {one}" for one in strayed(body, bodies, is_table) if one not in makers]
         wrong += [f"{name} {one}" for one in dict.fromkeys(found)]
     return wrong

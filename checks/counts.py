@@ -1,19 +1,21 @@
-"""The number of accesses that a request hands out is the one that `Table::get` and `Table::put` counted.
+"""The number of accesses that a request hands out is the one that `cells::get` and `cells::put` counted.
 
 The contracts say that each of them adds one, and they bound the number that a request hands out. They can't say that every function on the way
-counts on this one table, or that it is its number that is handed out. These rules over the code as it is proved and compiled (`mir.py`) say it:
+counts on this one number, or that it is the number handed out. These rules over the code as it is proved and compiled (`mir.py`) say it:
 
-- `Table::count` alone changes a table's count, and adds one to it. `get` and `put` alone call it, once, and make their access, `get` by the one call of
-  `Cells::cell`. `Table::new` sets the count to 0 and `Table::spent` tells it; `Book::new` and `Book::spent` alone call those.
-- Elsewhere a table or a book is lent on as it came, to functions that take one there, and a book's arena is read: nothing else is done with it. So it
-  stands nowhere but behind a reference of its own. Below a request nobody has one of its own, looks at its count, or reaches its fields.
+- A function that counts has one `&mut u64`, its last parameter, or is one of a book, which has its count as its second field. It does nothing with the
+  count but lend it on, as the last argument, to functions that count, and lends such a function nothing else. `cells::count` alone looks behind it, and
+  adds one. Those that make an access, and no others, call it, once, and call nothing else.
+- `Book::new` sets a book's count to 0, and `Book::spent` tells it. Elsewhere a book is lent on as it came, to functions that take one there, and its arena is
+  read: nothing else is done with it. So it stands nowhere but behind a reference of its own, and nobody below a request has one of its own or looks at its
+  count.
 - A request makes one book, over a slice of u64, and has no loop. On each way to its end it hands out a reply whose second field is what the book's
   `spent` told when nothing more was done with the book, or 0 where no book was made.
 - A function that is handed a reply with its count returns it as it is or puts its count into a result of its own, or adds its count to a sum that was
   set to 0 once, before any such call, and returns a result with the sum's last value at its end. A result with no count is for where nothing was counted.
 - A function of the C interface makes one request at most, by itself and by all that it calls.
-- Each call names the function that it calls, but for the call of `Cells::cell` in `Table::get` and those that run.py lists. The host, which is no part
-  of the library, may call through a bound, and has no table or book.
+- Each call names the function that it calls, but for those that run.py lists, and no function that makes a request is handed on as a value. The host,
+  which is no part of the library, may call through a bound, and has no book.
 
 Where the code has another shape than these rules know, they complain.
 """
@@ -28,8 +30,8 @@ NONE = ["int", "64", "0"]
 # with no count
 PARTS = ("counts", "opens", "adds", "asks", "free", "host")
 HANDING = ("opens", "tells", "adds")
-# the functions of a table that are what their names say and nothing more
-EXACT = ("new", "get", "put", "count", "spent")
+# the functions of a book that are what their names say and nothing more
+EXACT = ("new", "over", "spent")
 
 # an example for the check of this check; the first word of a function's name is the part that it plays; `Lax`, `Slack` and `Idle` are tables, `Loose` is a book
 SAMPLE = """
@@ -1322,32 +1324,75 @@ def maker_of(name):
     return "::".join(words[:-1]).split("+")[0], words[-1]
 
 
+def is_count(kind):
+    """A `&mut u64`."""
+    return isinstance(kind, list) and kind[0] == "tyRef" and kind[2:] == ["mut", ["tyInt", "64"]]
+
+
+def counts(body):
+    """Whether a function has a `&mut u64` among its parameters."""
+    return any(is_count(kinds(body)[int(number)]) for number in parameters(body))
+
+
+def lends(body, counting, count, steps):
+    """Faults in how a function lends a count, which is the place with these steps from a local, and how often it names the local in doing so."""
+    taken = [where for where, value in assigns(body) if value[0] == "addrOf" and said(value[1]) == (count, steps)]
+    made = [where[1] for where in taken if where[2] == "lnil"]
+    given = []
+    wrong = []
+    for name, arguments, _ in calls(body):
+        if name in counting:
+            given.append(local_of(arguments[-1]))
+            if given[-1] not in made and (given[-1] != count or steps != ["deref"]):
+                wrong.append(f"lends {name} another count than its own")
+    uses = [place[1] for place in named(body[5])]
+    wrong += [f"does something else with a count than lend it (local {one})" for one in sorted(set(made)) if uses.count(one) != made.count(one) + given.count(one)]
+    wrong += ["hands out its count itself"] if "0" in made or len(made) < len(taken) else []
+    return wrong, len(made) + given.count(count)
+
+
+def passing_faults(body, counting):
+    """What a function that counts does with its count other than lend it on."""
+    own = [number for number in parameters(body) if is_count(kinds(body)[int(number)])]
+    if own != parameters(body)[-1:]:
+        return ["has another `&mut u64` than its last parameter"]
+    wrong, uses = lends(body, counting, own[0], ["deref"])
+    return wrong + (["looks at its count or changes it"] if [place[1] for place in named(body[5])].count(own[0]) != uses else [])
+
+
+def holding_faults(body, counting):
+    """What a function of a book does with the book's count other than lend it on."""
+    wrong, uses = lends(body, counting, "1", ["deref", "field 1"])
+    return wrong + (["looks at its count or changes it"] if sum(said(place)[1][:2] == ["deref", "field 1"] for place in named(body[5])) != uses else [])
+
+
 class Program:
     """A program and the names that the rules speak of."""
 
-    def __init__(self, bodies, part_of, tables, books, cells, replies, unnamed):
+    def __init__(self, bodies, part_of, counter, accesses, books, replies, unnamed):
         self.bodies = bodies
         self.part_of = part_of        # the part that each function plays, of PARTS where it counts
-        self.tables = tables          # the types that count
-        self.books = books            # the types that have such a table as their first field
-        self.cells = cells            # the impls of a cell's read
+        self.counter = counter        # the function that looks behind a count
+        self.accesses = accesses      # the functions that make an access each
+        self.books = books            # the types that have a count as their second field
         self.replies = replies        # the structs that have a count as their second field
         self.unnamed = unnamed        # the functions that may call one that the call does not name
-        self.making = {f"{book}::new" for book in books}
+        self.making = {name for name in bodies if maker_of(name)[0] in books and maker_of(name)[1] in ("new", "over")}
+        self.counting = {name for name, body in bodies.items() if part_of(name) == "counts" and counts(body)}
         self.hidden = self.apart()
         self.taking = {name for name, body in bodies.items() if part_of(name) == "adds" and any(self.is_reply(kinds(body)[int(one)]) for one in parameters(body))}
         self.replying = {name for name in bodies if self.replies_from(name)}
 
     def is_held(self, kind):
-        """A table or a book."""
-        return type_name(kind) in self.tables | self.books
+        """A book."""
+        return type_name(kind) in self.books
 
     def is_lent(self, kind):
-        """A reference to a table or a book."""
+        """A reference to a book."""
         return self.is_held(lent_type(kind))
 
     def is_either(self, kind):
-        """A table or a book, or a reference to one."""
+        """A book, or a reference to one."""
         return self.is_held(kind) or self.is_lent(kind)
 
     def is_reply(self, kind):
@@ -1356,11 +1401,12 @@ class Program:
 
     def apart(self):
         """The functions that make a book, by themselves or by those that they call."""
+        reach = {name: {one for one, _, _ in calls(body)} | handed(body, self.bodies) for name, body in self.bodies.items()}
         found = set(self.making)
         size = 0
         while size < len(found):
             size = len(found)
-            found |= {name for name, body in self.bodies.items() if found & ({one for one, _, _ in calls(body)} | handed(body, self.bodies))}
+            found |= {name for name, ones in reach.items() if found & ones}
         return found - self.making
 
     def replies_from(self, name):
@@ -1371,109 +1417,84 @@ class Program:
     def may_call(self, name, called):
         """Whether a function may call one that has to do with a count; all others may be called."""
         kind, verb = maker_of(called)
-        own, own_verb = maker_of(name)
-        if called in self.cells:
-            return False
-        if kind in self.tables and verb in ("new", "spent"):
-            return own in self.books and own_verb == verb
-        if kind in self.tables and verb == "count":
-            return own == kind and own_verb in ("get", "put")
-        return kind not in self.books or verb not in ("new", "spent") or self.part_of(name) == "opens"
-
-    # ---- the functions of a table
+        if called == self.counter:
+            return name in self.accesses
+        if kind not in self.books or verb not in EXACT or self.part_of(name) == "opens":
+            return True
+        return verb == "new" and maker_of(name) == (kind, "over")
 
     def exact_faults(self, name):
-        """What is wrong in a function that makes a table, reads a cell, writes one, counts, or tells the count; nothing of another function."""
+        """What is wrong in a function that counts one, makes an access, makes a book or tells its count; nothing of another function."""
         body = self.bodies[name]
         kind, verb = maker_of(name)
         called = [one for one, _, _ in calls(body)]
-        if kind in self.tables and verb in ("new", "spent", "count"):
-            values = [(target, value) for target, value in assigns(body) if value != ["rvOpd", "unit"]]
-            return [] if plain(body) and not called and self.right(verb, body, values) else [f"is not what `{verb}` of a table is"]
-        if kind in self.tables and verb in ("get", "put"):
-            right = plain(body) and called == [f"{kind}::count", *([None] if verb == "get" else [])]
-            return [] if right and (verb == "put" or self.hands_out_a_cell(body)) else [f"does not count once and make one access (`{verb}`)"]
-        if kind in self.books and verb in ("new", "spent"):
-            made = list(calls(body))
-            right = plain(body) and len(made) == 1 and made[0][0] in {f"{table}::{verb}" for table in self.tables}
-            told = made and made[0][2] == ["place", "0", "lnil"] and all(value[0] == "addrOf" for _, value in assigns(body))
-            return [] if right and (verb == "new" or told) else [f"is not what `{verb}` of a book is"]
-        return []
-
-    def right(self, verb, body, values):
-        """Whether the assignments of a function are those of `new`, `spent` or `count`."""
-        own = ["deref", "field 1"]
+        values = [(where, value) for where, value in assigns(body) if value != ["rvOpd", "unit"]]
+        if name == self.counter:
+            return [] if plain(body) and not called and adds_one(values) else ["does not add one to its count, and nothing else"]
+        if name in self.accesses:
+            return [] if plain(body) and called == [self.counter] else [f"does not call {self.counter} once and nothing else"]
+        if kind not in self.books or verb not in EXACT:
+            return []
         if verb == "new":
-            fields = items(values[-1][1][1]) if values and values[-1][1][0] == "aggregate" else []
-            return values[-1][0][1] == "0" and len(fields) == 2 and fields[1] == NONE and all(value[0] == "rvOpd" for _, value in values[:-1])
-        if verb == "spent":
-            return len(values) == 1 and values[0][1][0] == "rvOpd" and said(place_of(values[0][1][1])) == ("1", own)
-        if len(values) != 3:
-            return False
-        (a, read), (b, more), (into, told) = values
-        return (read[0] == told[0] == "rvOpd" and said(place_of(read[1])) == said(into) == ("1", own)
-                and more == ["op2", ["add", "unsigned"], ["copy", a], ["int", "64", "1"]] and told[1] == ["copy", b])
+            fields = items(values[-1][1][1]) if values and values[-1][1][0] == "aggregate" and values[-1][0] == ["place", "0", "lnil"] else []
+            right = not called and len(fields) > 1 and fields[1] == NONE and all(value[0] == "rvOpd" for _, value in values[:-1])
+        elif verb == "over":
+            right = [(maker_of(one), where) for one, _, where in calls(body)] == [((kind, "new"), ["place", "0", "lnil"])]
+        else:
+            right = not called and len(values) == 1 and values[0][1][0] == "rvOpd" and said(place_of(values[0][1][1])) == ("1", ["deref", "field 1"])
+        return [] if plain(body) and right else [f"is not what `{verb}` of a book is"]
 
-    def hands_out_a_cell(self, body):
-        """Whether the call through a bound reads the table's own cells, and what it gives is handed out."""
-        (arguments, target), = [(arguments, target) for name, arguments, target in calls(body) if name is None]
-        lent = [value[1] for where, value in assigns(body) if value[0] == "addrOf" and where[1] == local_of(arguments[0])]
-        return [said(one) for one in lent] == [("1", ["deref", "field 0"])] and target == ["place", "0", "lnil"] and local_of(arguments[1]) == "2"
-
-    # ---- what is done with tables and books
+    # ---- what is done with books
 
     def handling_faults(self, name):
-        """What a function does with a table or a book other than lend it on."""
+        """What a function does with a book other than lend it on."""
         body = self.bodies[name]
         kind, verb = maker_of(name)
         part = self.part_of(name)
         all_kinds = kinds(body)
-        exact = kind in self.tables and verb in EXACT or kind in self.books and verb == "new"
+        exact = kind in self.books and verb in EXACT
         wrong = []
         tops = {id(one) for one in all_kinds} | {id(lent_type(one)) for one in all_kinds}
-        shapes = {id(node) for one in items(body[6]) if one[1].strip('"') in self.books for node in items(one[2][1])[:1]}
-        if any(self.is_held(node) and id(node) not in tops | shapes for node in walk([body[4], body[6]])):
-            wrong.append("has a table or a book inside something else")
+        if any(self.is_held(node) and id(node) not in tops for node in walk([body[4], body[6]])):
+            wrong.append("has a book inside something else")
         if not any(map(self.is_either, all_kinds)):
             return wrong
         if part not in ("counts", "opens"):
-            wrong.append("has a table or a book, and does not count")
+            wrong.append("has a book, and does not count")
         if any(map(self.is_held, all_kinds)) and part != "opens" and not exact:
-            wrong.append("has a table or a book of its own")
+            wrong.append("has a book of its own")
         if sum(self.is_either(all_kinds[int(number)]) for number in parameters(body)) > 1:
-            wrong.append("is lent more than one table or book")
+            wrong.append("is lent more than one book")
         if self.is_either(all_kinds[0]) and not exact:
-            wrong.append("hands out a table or a book")
-        wrong += [f"lends a table or a book to {one}" for one in strayed(body, self.bodies, self.is_either)]
-        accesses = kind in self.tables and verb in ("get", "put")
-        return wrong + ([] if exact and not accesses else self.place_faults(body, accesses))
+            wrong.append("hands out a book")
+        wrong += [f"lends a book to {one}" for one in strayed(body, self.bodies, self.is_either)]
+        if kind in self.books and not exact:
+            wrong += holding_faults(body, self.counting)
+        return wrong + ([] if exact else self.place_faults(body, kind in self.books))
 
-    def place_faults(self, body, accesses):
-        """Where a table or a book is named otherwise than to be lent, or for its arena."""
+    def place_faults(self, body, is_own):
+        """Where a book is named otherwise than to be lent, or for its arena, or, in a function of its own, for its cells and its count."""
         wrong = []
         all_kinds = kinds(body)
-        lent = {id(value[1]): target for target, value in assigns(body) if value[0] == "addrOf"}
+        lent = {id(value[1]): where for where, value in assigns(body) if value[0] == "addrOf"}
         for place in named(body[5]):
             kind, steps = all_kinds[int(place[1])], said(place)[1]
             if not self.is_either(kind):
                 continue
-            behind = [step for step in steps if step != "deref"] if self.is_lent(kind) else steps
-            table = type_name(lent_type(kind) or kind) in self.tables
+            behind = steps[1:] if self.is_lent(kind) else steps
             whole_lent = id(place) in lent and self.is_lent(all_kinds[int(lent[id(place)][1])]) and lent[id(place)][2] == "lnil"
-            if behind and (table and not (accesses and behind[0] == "field 0") or not table and behind[0] == "field 0" and (behind != ["field 0"] or not whole_lent)):
-                wrong.append("reaches into a table")
-            elif not behind and steps and not whole_lent:
-                wrong.append("takes or sets a table or a book as a whole")
-            elif not behind and id(place) in lent and not whole_lent:
-                wrong.append("lends a table or a book otherwise than to a function")
+            if behind and behind[0] in ("field 0", "field 1") and not is_own:
+                wrong.append("reaches into a book")
+            elif not behind and (steps or id(place) in lent) and not whole_lent:
+                wrong.append("takes or sets a book as a whole")
         for node in walk(body[5]):
             if node[0] in ("assign", "call") and len(node) > 2:
                 where = target(node)
                 if self.is_either(all_kinds[int(where[1])]) and where[2] != "lnil":
-                    wrong.append("changes a table or a book")
+                    wrong.append("changes a book")
                 if node[0] == "assign" and where[2] == "lnil" and self.is_held(all_kinds[int(where[1])]) and (
                         node[2][0] != "rvOpd" or local_of(node[2][1]) is None):
-                    wrong.append("makes a table or a book by itself")
+                    wrong.append("makes a book by itself")
         return wrong
 
     # ---- a request
@@ -1512,6 +1533,15 @@ class Program:
             return ["hands out something else than its book's count"]
         later = [place for one in way[read + 1:] for place in named(one) if self.is_either(kinds(body)[int(place[1])])]
         return ["names its book after it has read the count"] if later else []
+
+
+def adds_one(values):
+    """Whether the assignments of a function add one to what its parameter refers to."""
+    if len(values) != 3:
+        return False
+    (a, read), (b, more), (into, told) = values
+    return (read[0] == told[0] == "rvOpd" and said(place_of(read[1])) == said(into) == ("1", ["deref"])
+            and more == ["op2", ["add", "unsigned"], ["copy", a], ["int", "64", "1"]] and told[1] == ["copy", b])
 
 
 def said(place):
@@ -1722,9 +1752,9 @@ def requests_made(program, name, above=()):
     return sum(requests_made(program, one, (*above, name)) for code in codes for one, _, _ in calls(code))
 
 
-def faults(bodies, part_of, tables, books, cells, replies, unnamed):
+def faults(bodies, part_of, counter, accesses, books, replies, unnamed):
     """Faults of a program; the words are those of `Program`."""
-    program = Program(bodies, part_of, tables, books, cells, replies, unnamed)
+    program = Program(bodies, part_of, counter, accesses, books, replies, unnamed)
     return [f"{name} {one}" for name in bodies for one in dict.fromkeys(faults_of(program, name))]
 
 
@@ -1743,6 +1773,10 @@ def faults_of(program, name):
         wrong.append("counts, and plays no part that is known")
     if part in ("counts", *HANDING):
         wrong += [f"calls {one}, which counts apart" for one in sorted(called & program.hidden - (program.replying if part == "adds" else set()))]
+    if name in program.counting:
+        wrong += passing_faults(body, program.counting) if name != program.counter else []
+    elif called & program.counting and not (part == "counts" and maker_of(name)[0] in program.books):
+        wrong.append("calls a function that counts, and does not count itself")
     if part in ("opens", "tells") and (part == "opens" or name in program.hidden | program.replying):
         return wrong + program.opening_faults(name)
     if part == "adds" and name in program.hidden | program.replying:

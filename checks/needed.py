@@ -1,6 +1,6 @@
 """A request makes its book over exactly the cells that its m needs: so what lies beyond them is handed to no working code.
 
-`Book::new` asks in its contract for exactly the cells that its arena needs, and whoever calls it has to prove what it asks. Each request lends it the
+`Book::new` and `Book::over` each ask in their contract for exactly the cells that the arena needs, and whoever calls them has to prove what they ask. Each request lends one of them the
 first cells of its table, as many as the arena says, and has the arena from an admission of its own m and its table's length, whose contract says that the
 arena is that of m. Works on the code as it is proved and compiled (`mir.py`), and on the contracts in the source.
 """
@@ -9,8 +9,8 @@ import re
 from accesses import is_table
 from mir import assigns, callee, calls, items, kinds, local_of, parameters, place_of, set_by, target, walk
 
-# what `Book::new` asks of the cells, and what an admission promises: the clause, and where its words come from
-ASKED = (r"length \(C\.list cells\) ≡ need arena\.m", {"length": "Rattle.std.specs.Prelude.length", "need": "Rattle.table.specs.Table.need"})
+# what `Book::new` and `Book::over` ask of the cells, and what an admission promises: the clause, and where its words come from
+ASKED = (r"length (?:\(C\.list cells\)|cells\.old) ≡ need arena\.m", {"length": "Rattle.std.specs.Prelude.length", "need": "Rattle.table.specs.Table.need"})
 ADMITTED = (r"Admits m cells (?:0|\([^()]*(?:\([^()]*\))?\)) result", {"Admits": "Rattle.arena.specs.Admits.Admits"})
 
 # for the check of this check, wrong contracts: what is wrong, of which contract, the text that is replaced (a pattern), the text instead
@@ -287,10 +287,10 @@ def admission(body, arena, table, own):
 
 
 def request_faults(name, body, making, counting, admits, own):
-    """Faults of a request: its book is made by the first function, the second says how many cells an arena needs, the third whether a function admits."""
+    """Faults of a request: its book is made by one of the first functions, the second says how many cells an arena needs, the third whether a function admits."""
     wrong = []
     for called, arguments, _ in calls(body):
-        if called == making:
+        if called in making:
             table = table_lent(body, arguments[0], arguments[1], counting)
             if table is None:
                 wrong.append(f"{name} {OTHER_CELLS}")
@@ -300,9 +300,10 @@ def request_faults(name, body, making, counting, admits, own):
 
 
 def faults(bodies, requests, making, counting, source_of):
-    """Faults of a program: its functions, its requests, the function that makes a book, that which counts the cells of an arena, the source of each."""
-    if not says(source_of(making), making.split("::")[-1], "requires", ASKED):
-        return [f"{name} makes its book by {making}, which does not ask for exactly the needed cells" for name in requests]
+    """Faults of a program: its functions, its requests, the functions that make a book, that which counts the cells of an arena, the source of each."""
+    for one in sorted(making):
+        if not says(source_of(one), one.split("::")[-1], "requires", ASKED):
+            return [f"{name} may make its book by {one}, which does not ask for exactly the needed cells" for name in requests]
 
     def admits(called):
         source, function = (source_of(called), called.split("::")[-1]) if called in bodies else ("", "")

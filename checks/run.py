@@ -149,16 +149,18 @@ def readers_agree():
     return wrong + ([f"{len(compiled)} functions were read"] if len(compiled) != mir.SAMPLE_COUNT else [])
 
 
-# The table that counts, the book that has it, and the functions that make an access to the table each.
-TABLE, BOOK = "cells::lent::Table", "walks::book::Book"
-CELLS = {"cells::lent::RefSliceU64Cells::cell", "cells::lent::RefMutSliceU64Cells::cell"}
-ACCESSES = CELLS | {f"{TABLE}+mut+slice+u64::put"}
+# The functions that make an access to the table each, and the one by which they count it.
+ACCESSES, COUNTER = {"cells::get", "cells::put"}, "cells::count"
+# The book of a table, which has its cells and their count; the functions that make one, and those that show the cells behind a reference.
+BOOK = "walks::book::Book"
+MAKERS = {f"{BOOK}::new", f"{BOOK}+mut+slice+u64::over"}
+SHOWN = {f"walks::book::{name}Cells::shown" for name in ("RefSliceU64", "RefMutSliceU64")}
 # The six requests: each makes one book, over the cells that its arena needs.
 REQUESTS = {f"arena::{name}" for name in ("start", "take", "give_back", "which", "figures", "check_up")}
-# What a request hands out, with its count as the second field; and the functions of the library that call through a bound: the read of a table's cell, and
-# two of a reply of any kind, which says its values and is copied.
+# What a request hands out, with its count as the second field; and the functions of the library that call through a bound: three of a book of
+# any kind, which has its cells shown, and two of a reply of any kind, which says its values and is copied.
 REPLY = "arena::told::Counted"
-THROUGH_A_BOUND = {f"{TABLE}::get", f"{REPLY}::numbers", f"{REPLY}Clone::clone"}
+THROUGH_A_BOUND = {*(f"{BOOK}::{name}" for name in ("get", "down", "locate")), f"{REPLY}::numbers", f"{REPLY}Clone::clone"}
 # The lists of requests and of answers are slices of u64 too: the functions of `sequence` that have such lists, and the names of the parameters that
 # are. The table is none of these parameters. Where a function has no other slices of u64, it may do with them what it likes.
 LISTS = {
@@ -194,8 +196,8 @@ def lists():
 
 
 def accesses_counted():
-    """Only the two reads of a cell and Table::put reach an element of a slice of u64, one each, but for the lists of requests and answers."""
-    return accesses.faults(all_code(), ACCESSES, {f"{BOOK}::new"}, {TABLE, BOOK}, lists(), HOST_FUNCTIONS)
+    """Only cells::get and cells::put reach an element of a slice of u64, one each, but for the lists of requests and answers."""
+    return accesses.faults(all_code(), ACCESSES, MAKERS, SHOWN, {BOOK}, lists(), HOST_FUNCTIONS)
 
 
 def differences(said, faults):
@@ -214,8 +216,8 @@ def access_check_catches():
     """The check of accesses catches each function of its example that reaches elements or hides a slice, and no other."""
     bodies = code_of(accesses.SAMPLE)
     gets = {name for name in bodies if name.startswith("sample::gets")}
-    gets |= of_sample("RefSliceU64Cells::cell", "RefMutSliceU64Cells::cell", "Table+mut+slice+u64::put")
-    return differences(accesses.faults(bodies, gets, of_sample("Table::new"), of_sample("Table"), accesses.SAMPLE_LISTS, set()), accesses.FAULTS)
+    shown = of_sample("RefSliceU64Cells::shown", "RefMutSliceU64Cells::shown")
+    return differences(accesses.faults(bodies, gets, of_sample("Book::new"), shown, of_sample("Book"), accesses.SAMPLE_LISTS, set()), accesses.FAULTS)
 
 
 def part_of(name):
@@ -227,32 +229,31 @@ def part_of(name):
 
 
 def counts_kept():
-    """The number of accesses that a request hands out is the count that Table::get and Table::put kept."""
-    return counts.faults(all_code(), part_of, {TABLE}, {BOOK}, CELLS, {REPLY}, THROUGH_A_BOUND)
+    """The number of accesses that a request hands out is the count that cells::get and cells::put kept."""
+    return counts.faults(all_code(), part_of, COUNTER, ACCESSES, {BOOK}, {REPLY}, THROUGH_A_BOUND)
 
 
 def part_in_sample(name):
     """The part that a function of the example of the check of counts plays: the first word of its name; a closure plays that of its function."""
     words = name.split("::")
     word = (words[2] if words[1] == "fn" else words[1].split("+")[0]).split("_")[0]
-    return {"Table": "counts", "Book": "counts", "Lax": "counts", "Slack": "counts", "Idle": "counts", "Loose": "counts", "Counted": "tells", "CountedClone": "tells"}.get(word, word)
+    return {"Book": "counts", "Loose": "counts", "Counted": "tells", "CountedClone": "tells"}.get(word, word)
 
 
 def count_check_catches():
     """The check of counts catches each function of its example that counts wrongly, and no other."""
-    tables = of_sample("Table", "Lax", "Slack", "Idle")
-    said = counts.faults(code_of(counts.SAMPLE), part_in_sample, tables, of_sample("Book", "Loose"), of_sample("RefSliceU64Cells::cell", "RefMutSliceU64Cells::cell"),
-                         of_sample("Counted"), {f"{table}::get" for table in tables} | of_sample("CountedClone::clone"))
-    return differences(said, counts.FAULTS)
+    bodies = code_of(counts.SAMPLE)
+    gets = {name for name in bodies if name.startswith("sample::counts_get")}
+    unnamed = of_sample("Book::get", "Loose::get", "CountedClone::clone")
+    return differences(counts.faults(bodies, part_in_sample, "sample::counts_one", gets, of_sample("Book", "Loose"), of_sample("Counted"), unnamed), counts.FAULTS)
 
 
 def only_needed_lent():
     """A request makes its book over exactly the needed cells of its own m; a contract that does not ask or promise it is seen."""
     bodies = all_code()
-    made = f"{BOOK}::new"
-    wrong = needed.faults(bodies, REQUESTS, made, "terms::arenas::Arena::cells", source_of)
+    wrong = needed.faults(bodies, REQUESTS, MAKERS, "terms::arenas::Arena::cells", source_of)
     for what, clause, old, new in needed.EDITS:
-        said = needed.faults(bodies, REQUESTS, made, "terms::arenas::Arena::cells", lambda name: re.sub(old, new, source_of(name)) if (name == made) == (clause is needed.ASKED) else source_of(name))
+        said = needed.faults(bodies, REQUESTS, MAKERS, "terms::arenas::Arena::cells", lambda name: re.sub(old, new, source_of(name)) if (name in MAKERS) == (clause is needed.ASKED) else source_of(name))
         if len(said) != len(REQUESTS):
             wrong.append(f"not seen in all six requests: {what}")
     return wrong
@@ -261,7 +262,7 @@ def only_needed_lent():
 def needed_check_catches():
     """The check of needed cells catches each function of its example that makes its book over other cells or in another arena, and no other."""
     bodies = code_of(needed.SAMPLE)
-    said = [fault for name, body in bodies.items() for fault in needed.request_faults(name, body, "sample::Book::new", "sample::Arena::cells", lambda called: called == "sample::admit",
+    said = [fault for name, body in bodies.items() for fault in needed.request_faults(name, body, {"sample::Book::new"}, "sample::Arena::cells", lambda called: called == "sample::admit",
                                                                                       needed.names(needed.SAMPLE, name.split("::")[-1]))]
     return differences(said, needed.FAULTS)
 
