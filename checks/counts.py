@@ -33,63 +33,50 @@ HANDING = ("opens", "tells", "adds")
 # the functions of a book that are what their names say and nothing more
 EXACT = ("new", "over", "spent")
 
-# an example for the check of this check; the first word of a function's name is the part that it plays; `Lax`, `Slack` and `Idle` are tables, `Loose` is a book
+# an example for the check of this check; the first word of a function's name is the part that it plays, and `Loose` is a book that is not right
 SAMPLE = """
 use std::mem;
 
-// ---- a table and a book, and what is made of them rightly
+// ---- a count that is lent, and a book that has one
+
+pub fn counts_one(spent: &mut u64) {
+    *spent += 1;
+}
+
+pub fn counts_two_at_once(spent: &mut u64) {
+    *spent += 2;
+}
+
+pub fn counts_get(t: &[u64], at: usize, spent: &mut u64) -> u64 {
+    counts_one(spent);
+    t[at]
+}
+
+pub fn counts_get_and_set(t: &mut [u64], at: usize, v: u64, spent: &mut u64) {
+    counts_one(spent);
+    t[at] = v;
+}
 
 pub trait Cells: Drop {
-    fn cell(&self, at: usize) -> u64;
+    fn shown(&self) -> &[u64];
 }
 
 impl<'a> Cells for &'a [u64] {
-    fn cell(&self, at: usize) -> u64 {
-        self[at]
+    fn shown(&self) -> &[u64] {
+        self
     }
 }
 
 impl<'a> Cells for &'a mut [u64] {
-    fn cell(&self, at: usize) -> u64 {
-        self[at]
-    }
-}
-
-#[derive(Drop)]
-pub struct Table<C: Cells> {
-    cells: C,
-    spent: u64,
-}
-
-impl<C: Cells> Table<C> {
-    pub fn new(cells: C) -> Table<C> {
-        Table { cells, spent: 0 }
-    }
-
-    pub fn spent(&self) -> u64 {
-        self.spent
-    }
-
-    fn count(&mut self) {
-        self.spent += 1;
-    }
-
-    pub fn get(&mut self, at: usize) -> u64 {
-        self.count();
-        self.cells.cell(at)
-    }
-}
-
-impl<'a> Table<&'a mut [u64]> {
-    pub fn put(&mut self, at: usize, v: u64) {
-        self.count();
-        self.cells[at] = v;
+    fn shown(&self) -> &[u64] {
+        self
     }
 }
 
 #[derive(Drop)]
 pub struct Book<C: Cells> {
-    table: Table<C>,
+    cells: C,
+    spent: u64,
     pub arena: u64,
 }
 
@@ -100,23 +87,35 @@ pub type Shown<'a> = Book<&'a [u64]>;
 impl<C: Cells> Book<C> {
     pub fn new(cells: C, arena: u64) -> Book<C> {
         Book {
-            table: Table::new(cells),
+            cells,
+            spent: 0,
             arena,
         }
     }
 
     pub fn spent(&self) -> u64 {
-        self.table.spent()
+        self.spent
     }
 
     pub fn get(&mut self, at: usize) -> u64 {
-        self.table.get(at)
+        counts_get(self.cells.shown(), at, &mut self.spent)
     }
 }
 
 impl<'a> Book<&'a mut [u64]> {
+    pub fn over(cells: &'a mut [u64], arena: u64) -> Book<&'a mut [u64]> {
+        Book::new(cells, arena)
+    }
+
     pub fn put(&mut self, at: usize, v: u64) {
-        self.table.put(at, v);
+        counts_get_and_set(self.cells, at, v, &mut self.spent);
+        let arena = self.arena;
+        counts_passing(self.cells, arena, &mut self.spent);
+    }
+
+    pub fn put_two(&mut self, at: usize) {
+        self.put(at, 1);
+        counts_get_and_set(self.cells, 3, 4, &mut self.spent);
     }
 }
 
@@ -148,39 +147,47 @@ impl Counted<u64> {
     }
 }
 
-// ---- tables and books that are not right
+// ---- a book that is not right
 
 #[derive(Drop)]
-pub struct Lax<C: Cells> {
+pub struct Loose<C: Cells> {
     cells: C,
     spent: u64,
+    pub arena: u64,
 }
 
-impl<C: Cells> Lax<C> {
-    pub fn new(cells: C) -> Lax<C> {
-        Lax { cells, spent: 1 }
+impl<C: Cells> Loose<C> {
+    pub fn new(cells: C, arena: u64) -> Loose<C> {
+        Loose {
+            cells,
+            spent: 1,
+            arena,
+        }
     }
 
     pub fn spent(&self) -> u64 {
         self.spent / 2
     }
 
-    fn count(&mut self) {
-        self.spent += 2;
-    }
-
     pub fn get(&mut self, at: usize) -> u64 {
-        self.count();
-        self.count();
-        self.cells.cell(at)
+        let mut spent = self.spent;
+        counts_get(self.cells.shown(), at, &mut spent)
     }
 
-    pub fn peek(&self, at: usize) -> u64 {
-        self.cells.cell(at)
+    pub fn peek(&self, at: usize) -> usize {
+        self.cells.shown().len()
     }
 
     pub fn reset(&mut self) {
         self.spent = 0;
+    }
+
+    pub fn count(&mut self) {
+        counts_one(&mut self.spent);
+    }
+
+    pub fn empty(&mut self) {
+        set_to_nothing(&mut self.spent);
     }
 
     pub fn address(&mut self) -> &mut u64 {
@@ -188,97 +195,88 @@ impl<C: Cells> Lax<C> {
     }
 
     pub fn begin(&mut self, cells: C) {
-        *self = Lax { cells, spent: 0 };
+        *self = Loose {
+            cells,
+            spent: 0,
+            arena: 1,
+        };
     }
 
-    pub fn take_over(&mut self, other: Lax<C>) {
+    pub fn take_over(&mut self, other: Loose<C>) {
         *self = other;
     }
 }
 
-impl<'a> Lax<&'a mut [u64]> {
-    pub fn put(&mut self, at: usize, v: u64) {
-        self.cells[at] = v;
+impl<'a> Loose<&'a mut [u64]> {
+    pub fn over(cells: &'a mut [u64], arena: u64) -> Loose<&'a mut [u64]> {
+        let mut made = Loose::new(cells, arena);
+        made.reset();
+        made
+    }
+
+    pub fn put(&mut self, at: usize, v: u64, spent: &mut u64) {
+        counts_get_and_set(self.cells, at, v, spent);
     }
 }
 
-#[derive(Drop)]
-pub struct Slack<C: Cells> {
-    cells: C,
-    spent: u64,
+// ---- functions that are lent a count
+
+pub fn counts_get_for_nothing(at: u64, spent: &mut u64) -> u64 {
+    at
 }
 
-impl<C: Cells> Slack<C> {
-    pub fn spent(&self) -> u64 {
-        7
-    }
-
-    fn count(&mut self) {
-        if self.spent < 7 {
-            self.spent += 1;
-        }
-    }
-
-    pub fn get(&mut self, at: usize) -> u64 {
-        self.count();
-        self.cells.cell(at) / 2
-    }
+pub fn counts_get_for_two(t: &[u64], at: usize, spent: &mut u64) -> u64 {
+    counts_one(spent);
+    counts_one(spent);
+    t[at]
 }
 
-impl<'a> Slack<&'a mut [u64]> {
-    pub fn put(&mut self, at: usize, v: u64) {
-        self.count();
-        self.spent = 0;
-        self.cells[at] = v;
+pub fn counts_passing(t: &[u64], n: u64, spent: &mut u64) -> u64 {
+    let mut all = 0;
+    for i in 0..n {
+        all ^= counts_get(t, i as usize, spent);
     }
+    all ^ counts_get(t, 3, &mut *spent)
 }
 
-#[derive(Drop)]
-pub struct Idle<C: Cells> {
-    cells: C,
-    spent: u64,
+pub fn counts_on_another_number(t: &[u64], spent: &mut u64) -> u64 {
+    let mut other = 0;
+    counts_get(t, 3, &mut other)
 }
 
-impl<C: Cells> Idle<C> {
-    fn count(&mut self) {
-        self.spent += 1;
-    }
-
-    pub fn get(&mut self, at: usize) -> u64 {
-        self.count();
-        self.cells.cell(0)
-    }
+pub fn counts_a_number_back(t: &[u64], spent: &mut u64) -> u64 {
+    let x = counts_get(t, 3, &mut *spent);
+    *spent = *spent / 2;
+    x
 }
 
-impl<'a> Idle<&'a mut [u64]> {
-    pub fn put(&mut self, at: usize, v: u64) {
-        if at < 3 {
-            self.count();
-            self.cells[at] = v;
-        }
-    }
+pub fn counts_by_its_number(t: &[u64], spent: &mut u64) -> u64 {
+    if *spent < 3 { counts_get(t, 3, &mut *spent) } else { 0 }
 }
 
-#[derive(Drop)]
-pub struct Loose<C: Cells> {
-    table: Table<C>,
-    pub arena: u64,
+pub fn counts_first(spent: &mut u64, n: u64) -> u64 {
+    n
 }
 
-impl<C: Cells> Loose<C> {
-    pub fn new(cells: C, arena: u64) -> Loose<C> {
-        let mut table = Table::new(cells);
-        table.get(0);
-        Loose { table, arena }
-    }
+pub fn counts_two_numbers(other: &mut u64, spent: &mut u64) {}
 
-    pub fn spent(&self) -> u64 {
-        self.table.spent() / 2
-    }
+pub fn counts_and_lends_it_elsewhere(t: &[u64], spent: &mut u64) -> u64 {
+    let x = counts_get(t, 3, &mut *spent);
+    set_to_nothing(&mut *spent);
+    x
+}
 
-    pub fn tell(&self) -> u64 {
-        self.table.spent
-    }
+pub fn counts_and_hands_its_number_out(spent: &mut u64) -> &mut u64 {
+    &mut *spent
+}
+
+pub fn counts_without_access(spent: &mut u64) {
+    counts_one(spent);
+}
+
+pub fn counts_not(t: &[u64]) -> u64 {
+    let mut spent = 0;
+    counts_get(t, 3, &mut spent)
 }
 
 // ---- functions that count
@@ -288,12 +286,8 @@ pub fn counts_rightly<C: Cells>(book: &mut Book<C>, n: u64) -> u64 {
     for i in 0..n {
         all ^= book.get(i as usize);
     }
-    if all < n { counts_in_a_table(&mut book.table) } else { all }
-}
-
-pub fn counts_in_a_table<C: Cells>(table: &mut Table<C>) -> u64 {
-    let own = table;
-    own.get(2)
+    let own = book;
+    all ^ own.get(2)
 }
 
 pub fn counts_and_writes(book: &mut Written<'_>, n: u64) -> Option<u64> {
@@ -304,14 +298,6 @@ pub fn counts_and_writes(book: &mut Written<'_>, n: u64) -> Option<u64> {
 
 pub fn counts_by_its_count(book: &mut Shown<'_>) -> u64 {
     if book.spent() < 3 { book.get(0) } else { 0 }
-}
-
-pub fn counts_by_its_tables_count(book: &mut Shown<'_>) -> u64 {
-    if book.table.spent() < 3 { book.get(0) } else { 0 }
-}
-
-pub fn counts_without_access(book: &mut Shown<'_>) {
-    book.table.count();
 }
 
 pub fn counts_on_another(book: &mut Shown<'_>, t: &[u64]) -> u64 {
@@ -328,7 +314,7 @@ pub fn counts_two(book: &mut Shown<'_>, other: &mut Shown<'_>) -> u64 {
 }
 
 pub fn counts_back(book: &mut Shown<'_>) -> u64 {
-    book.table.spent = 0;
+    book.spent = 0;
     book.get(0)
 }
 
@@ -339,10 +325,6 @@ pub fn counts_in_another_arena(book: &mut Shown<'_>) -> u64 {
 
 pub fn counts_and_swaps<'a>(book: &mut Shown<'a>, other: &mut Shown<'a>) {
     mem::swap(book, other);
-}
-
-pub fn counts_and_swaps_tables<'a>(book: &mut Shown<'a>, other: &mut Shown<'a>) {
-    mem::swap(&mut book.table, &mut other.table);
 }
 
 fn taken_for_any<T>(_x: &mut T) {}
@@ -390,12 +372,12 @@ pub fn counts_apart(t: &mut [u64], n: u64) -> u64 {
     one.number()
 }
 
-pub fn counts_a_cell_by_its_name(t: &[u64]) -> u64 {
-    t.cell(3)
+pub fn counts_on_its_own(book: &mut Shown<'_>, t: &[u64]) -> u64 {
+    counts_get(t, 3, &mut book.spent)
 }
 
-pub fn counts_a_cell_through_a_bound<C: Cells>(cells: &C) -> u64 {
-    cells.cell(3)
+pub fn counts_its_cells(book: &mut Shown<'_>) -> usize {
+    book.cells.len()
 }
 
 pub fn counts_and_hands_out_a_reply(book: &mut Shown<'_>) -> Counted<u64> {
@@ -417,7 +399,7 @@ pub fn opens_rightly(t: &mut [u64], n: u64) -> Counted<u64> {
             spent: 0,
         };
     }
-    let mut book = Book::new(&mut t[..3], n);
+    let mut book = Book::over(&mut t[..3], n);
     let found = counts_and_writes(&mut book, n);
     if let Some(x) = found {
         return Counted {
@@ -619,7 +601,8 @@ pub fn opens_and_swaps(t: &[u64], n: u64) -> Counted<u64> {
 
 pub fn opens_by_hand(t: &[u64], n: u64) -> Counted<u64> {
     let mut book = Book {
-        table: Table::new(t),
+        cells: t,
+        spent: 0,
         arena: n,
     };
     let x = book.get(0);
@@ -629,21 +612,12 @@ pub fn opens_by_hand(t: &[u64], n: u64) -> Counted<u64> {
     }
 }
 
-pub fn opens_and_reads_its_table(t: &[u64], n: u64) -> Counted<u64> {
+pub fn opens_and_reads_its_count(t: &[u64], n: u64) -> Counted<u64> {
     let mut book = Book::new(t, n);
     let x = book.get(0);
     Counted {
         answer: Ok(x),
-        spent: book.table.spent,
-    }
-}
-
-pub fn opens_and_reads_its_tables_count(t: &[u64], n: u64) -> Counted<u64> {
-    let mut book = Book::new(t, n);
-    let x = book.get(0);
-    Counted {
-        answer: Ok(x),
-        spent: book.table.spent(),
+        spent: book.spent,
     }
 }
 
@@ -662,8 +636,8 @@ pub struct Fake {
 }
 
 impl Cells for Fake {
-    fn cell(&self, _at: usize) -> u64 {
-        self.x
+    fn shown(&self) -> &[u64] {
+        &[]
     }
 }
 
@@ -1171,67 +1145,68 @@ pub fn counts_with_a_closure<F: Fn(u64) -> u64>(f: F, book: &mut Shown<'_>) -> u
 """
 # the functions of the example that are wrong, each with what is to be said of it
 FAULTS = {
-    "Lax::address": "reaches into a table",
-    "Lax::begin": "makes a table or a book by itself",
-    "Lax::count": "is not what `count` of a table is",
-    "Lax::get": "does not count once and make one access (`get`)",
-    "Lax::new": "is not what `new` of a table is",
-    "Lax::peek": "calls a function that the call does not name",
-    "Lax::reset": "changes a table or a book",
-    "Lax::spent": "is not what `spent` of a table is",
-    "Lax::take_over": "takes or sets a table or a book as a whole",
-    "Lax+mut+slice+u64::put": "does not count once and make one access (`put`)",
-    "Slack::count": "is not what `count` of a table is",
-    "Slack::get": "does not count once and make one access (`get`)",
-    "Slack::spent": "is not what `spent` of a table is",
-    "Slack+mut+slice+u64::put": "reaches into a table",
-    "Idle::get": "does not count once and make one access (`get`)",
-    "Idle+mut+slice+u64::put": "does not count once and make one access (`put`)",
+    "Loose::address": "hands out its count itself",
+    "Loose::begin": "makes a book by itself",
+    "Loose::count": "calls sample::counts_one, which is not for it",
+    "Loose::empty": "does something else with a count than lend it",
+    "Loose::get": "lends sample::counts_get another count than its own",
     "Loose::new": "is not what `new` of a book is",
+    "Loose::peek": "calls a function that the call does not name",
+    "Loose::reset": "changes a book",
     "Loose::spent": "is not what `spent` of a book is",
-    "Loose::tell": "reaches into a table",
-    "counts_a_cell_by_its_name": "calls sample::RefSliceU64Cells::cell, which is not for it",
-    "counts_a_cell_through_a_bound": "calls a function that the call does not name",
-    "counts_and_becomes": "takes or sets a table or a book as a whole",
-    "counts_and_hands_it_out": "hands out a table or a book",
+    "Loose::take_over": "takes or sets a book as a whole",
+    "Loose+mut+slice+u64::over": "is not what `over` of a book is",
+    "Loose+mut+slice+u64::put": "lends sample::counts_get_and_set another count than its own",
+    "counts_a_number_back": "looks at its count or changes it",
+    "counts_and_becomes": "takes or sets a book as a whole",
+    "counts_and_hands_it_out": "hands out a book",
+    "counts_and_hands_its_number_out": "hands out its count itself",
     "counts_and_hands_out_a_reply": "returns a reply with its count, and neither opens a count nor adds counts up",
-    "counts_and_lends_to_any": "lends a table or a book to sample::taken_for_any",
-    "counts_and_swaps": "lends a table or a book to std::mem::swap",
-    "counts_and_swaps_tables": "lends a table or a book to std::mem::swap",
+    "counts_and_lends_it_elsewhere": "does something else with a count than lend it",
+    "counts_and_lends_to_any": "lends a book to sample::taken_for_any",
+    "counts_and_swaps": "lends a book to std::mem::swap",
     "counts_apart": "calls sample::opens_rightly, which counts apart",
-    "counts_back": "changes a table or a book",
+    "counts_back": "changes a book",
     "counts_by_its_count": "calls sample::Book::spent, which is not for it",
-    "counts_by_its_tables_count": "calls sample::Table::spent, which is not for it",
-    "counts_in_a_closure": "has a table or a book inside something else",
-    "counts_in_a_pair": "has a table or a book inside something else",
-    "counts_in_a_struct": "has a table or a book inside something else",
-    "counts_in_an_option": "has a table or a book inside something else",
-    "counts_in_another_arena": "changes a table or a book",
-    "counts_on_another": "has a table or a book of its own",
-    "counts_on_what_is_given": "has a table or a book of its own",
-    "counts_through_a_bound": "lends a table or a book to a function that the call does not name",
-    "counts_two": "is lent more than one table or book",
+    "counts_by_its_number": "looks at its count or changes it",
+    "counts_first": "has another `&mut u64` than its last parameter",
+    "counts_get_for_nothing": "does not call sample::counts_one once and nothing else",
+    "counts_get_for_two": "does not call sample::counts_one once and nothing else",
+    "counts_in_a_closure": "has a book inside something else",
+    "counts_in_a_pair": "has a book inside something else",
+    "counts_in_a_struct": "has a book inside something else",
+    "counts_in_an_option": "has a book inside something else",
+    "counts_in_another_arena": "changes a book",
+    "counts_its_cells": "reaches into a book",
+    "counts_not": "calls a function that counts, and does not count itself",
+    "counts_on_another": "has a book of its own",
+    "counts_on_another_number": "lends sample::counts_get another count than its own",
+    "counts_on_its_own": "reaches into a book",
+    "counts_on_what_is_given": "has a book of its own",
+    "counts_through_a_bound": "lends a book to a function that the call does not name",
+    "counts_two": "is lent more than one book",
+    "counts_two_at_once": "looks at its count or changes it",
+    "counts_two_numbers": "has another `&mut u64` than its last parameter",
     "counts_with_a_closure": "calls a function that the call does not name",
-    "counts_without_access": "calls sample::Table::count, which is not for it",
+    "counts_without_access": "calls sample::counts_one, which is not for it",
     "opens_a_fake": "makes a book of something else than a slice of u64",
     "opens_again": "does not make one book",
     "opens_and_calls_through_a_bound": "calls a function that the call does not name",
     "opens_and_lends_what_it_tells": "hands out something else than its book's count",
-    "opens_and_reads_its_table": "reaches into a table",
-    "opens_and_reads_its_tables_count": "calls sample::Table::spent, which is not for it",
+    "opens_and_reads_its_count": "reaches into a book",
     "opens_and_sets_its_reply": "hands out something else than its book's count",
     "opens_and_sets_what_it_tells": "hands out something else than its book's count",
-    "opens_and_swaps": "lends a table or a book to std::mem::replace",
+    "opens_and_swaps": "lends a book to std::mem::replace",
     "opens_and_tells_early": "names its book after it has read the count",
     "opens_and_tells_half": "hands out something else than its book's count",
     "opens_and_tells_none": "hands out something else than its book's count",
     "opens_and_then_refuses": "hands out something else than its book's count",
     "opens_another": "calls sample::opens_rightly, which counts apart",
     "opens_around_another": "calls sample::opens_rightly, which counts apart",
-    "opens_by_hand": "makes a table or a book by itself",
+    "opens_by_hand": "makes a book by itself",
     "opens_each_round": "has a loop",
     "opens_in_a_box": "hands out no reply with its count",
-    "opens_in_a_closure": "has a table or a book inside something else",
+    "opens_in_a_closure": "has a book inside something else",
     "opens_nothing": "does not make one book",
     "opens_nothing_and_tells_five": "hands out something else than its book's count",
     "opens_two": "does not make one book",
@@ -1269,32 +1244,32 @@ FAULTS = {
     "adds_what_a_call_says": "loses a count at the call of sample::counts_of",
     "adds_what_may_be_none": "adds a count on one way only",
     "asks_by_itself": "makes more than one request",
-    "asks_a_book": "has a table or a book, and does not count",
+    "asks_a_book": "has a book, and does not count",
     "asks_and_hands_it_on": "returns a reply with its count, and neither opens a count nor adds counts up",
+    "asks_by_a_pointer": "takes the address of a function",
+    "asks_by_a_value": "hands on sample::sample++asks_of+FnOnce::call_once, which makes a request",
     "asks_each_round": "makes more than one request",
     "asks_each_round_through_another": "makes more than one request",
     "asks_for_a_sum": "makes more than one request",
     "asks_through_a_bound": "calls a function that the call does not name",
     "asks_twice": "makes more than one request",
     "asks_twice_through_another": "makes more than one request",
-    "asks_by_a_value": "hands on sample::sample++asks_of+FnOnce::call_once, which makes a request",
     "sample++asks_of+FnOnce::call_once": "counts, and plays no part that is known",
-    "asks_by_a_pointer": "takes the address of a function",
     "free_and_calls_through_a_bound": "calls a function that the call does not name",
     "free_and_hands_it_on": "returns a reply with its count, and neither opens a count nor adds counts up",
     "helps": "counts, and plays no part that is known",
-    "Other::hold": "has a table or a book, and does not count",
+    "Other::hold": "has a book, and does not count",
     "host_that_hands_it_on": "returns a reply with its count, and neither opens a count nor adds counts up",
-    "host_that_has_a_book": "has a table or a book, and does not count",
+    "host_that_has_a_book": "has a book, and does not count",
     "fn::adds_in_a_closure::find": "returns without adding a count",
     "fn::adds_in_a_closure::find+FnMut::call_mut": "calls sample::fn::adds_in_a_closure::find, which counts apart",
     "fn::adds_in_a_closure::find+FnOnce::call_once": "calls sample::fn::adds_in_a_closure::find, which counts apart",
-    "fn::counts_in_a_closure::find": "has a table or a book inside something else",
-    "fn::counts_in_a_closure::find+FnMut::call_mut": "has a table or a book inside something else",
-    "fn::counts_in_a_closure::find+FnOnce::call_once": "has a table or a book inside something else",
-    "fn::opens_in_a_closure::find": "has a table or a book inside something else",
-    "fn::opens_in_a_closure::find+FnMut::call_mut": "has a table or a book inside something else",
-    "fn::opens_in_a_closure::find+FnOnce::call_once": "has a table or a book inside something else",
+    "fn::counts_in_a_closure::find": "has a book inside something else",
+    "fn::counts_in_a_closure::find+FnMut::call_mut": "has a book inside something else",
+    "fn::counts_in_a_closure::find+FnOnce::call_once": "has a book inside something else",
+    "fn::opens_in_a_closure::find": "has a book inside something else",
+    "fn::opens_in_a_closure::find+FnMut::call_mut": "has a book inside something else",
+    "fn::opens_in_a_closure::find+FnOnce::call_once": "has a book inside something else",
 }
 
 

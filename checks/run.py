@@ -245,7 +245,10 @@ def count_check_catches():
     bodies = code_of(counts.SAMPLE)
     gets = {name for name in bodies if name.startswith("sample::counts_get")}
     unnamed = of_sample("Book::get", "Loose::get", "CountedClone::clone")
-    return differences(counts.faults(bodies, part_in_sample, "sample::counts_one", gets, of_sample("Book", "Loose"), of_sample("Counted"), unnamed), counts.FAULTS)
+    one, two = (counts.faults(bodies, part_in_sample, counter, gets, of_sample("Book", "Loose"), of_sample("Counted"), unnamed)
+                for counter in ("sample::counts_one", "sample::counts_two_at_once"))
+    wrong = [] if any(fault.startswith("sample::counts_two_at_once does not add one") for fault in two) else ["counts_two_at_once: not said that it does not add one"]
+    return wrong + differences(one, counts.FAULTS)
 
 
 def only_needed_lent():
