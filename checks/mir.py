@@ -644,9 +644,10 @@ def target(statement):
 
 
 def set_by(body, local):
-    """The one assignment or call that sets a local as a whole; nothing where there is another, or its address is taken."""
+    """The one assignment or call that sets a local as a whole; nothing where there is another, or its own address is taken, or that of a part of it."""
     found = [node for node in walk(body[5]) if node[0] in ("assign", "call") and len(node) in (3, 4) and target(node)[1] == local]
-    return found[0] if len(found) == 1 and target(found[0])[2] == "lnil" and local not in addressed(body) and local not in parameters(body) else None
+    lent = [value for _, value in assigns(body) if value[0] == "addrOf" and value[1][1] == local and not any(step[0] == "deref" for step in items(value[1][2]))]
+    return found[0] if len(found) == 1 and target(found[0])[2] == "lnil" and not lent and local not in parameters(body) else None
 
 
 def put_in(kind, given):

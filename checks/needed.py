@@ -86,6 +86,31 @@ pub fn rightly_too(n: u64, t: &mut [u64], m: u64) -> u64 {
     book.arena.m
 }
 
+pub fn rightly_lent_on(t: &mut [u64], m: u64) -> u64 {
+    match admit(m, t.len()) {
+        Ok(arena) => {
+            let cells = &mut t[..arena.cells()];
+            let own = cells;
+            let book = Book::new(own, arena);
+            book.arena.m
+        }
+        Err(why) => why,
+    }
+}
+
+pub fn one_of_two(t: &mut [u64], u: &mut [u64], m: u64) -> u64 {
+    match admit(m, t.len()) {
+        Ok(arena) => {
+            let mut cells = &mut t[..arena.cells()];
+            if m == 3 {
+                cells = u;
+            }
+            Book::new(cells, arena).arena.m
+        }
+        Err(why) => why,
+    }
+}
+
 pub fn all(t: &mut [u64], m: u64) -> u64 {
     match admit(m, t.len()) {
         Ok(arena) => Book::new(t, arena).arena.m,
@@ -195,6 +220,7 @@ OTHER_CELLS = "makes its book over other cells than the first that its arena nee
 OTHER_ARENA = "has its arena from elsewhere than an admission of its own m and its table"
 # the functions of the example that are wrong, each with what is to be said of it
 FAULTS = {
+    "one_of_two": OTHER_CELLS,
     "all": OTHER_CELLS,
     "from_the_second": OTHER_CELLS,
     "half": OTHER_CELLS,
@@ -264,11 +290,16 @@ def call_of(body, local):
 def table_lent(body, cells, arena, counting):
     """The parameter of which exactly the first cells that an arena says, by the function that counts them, are lent."""
     made = value_of(body, local_of(cells))
+    if made[0] == "rvOpd":
+        return table_lent(body, made[1], arena, counting)
     fields = items(made[1]) if made[0] == "aggregate" else []
     if len(fields) != 2:
         return None
     first = value_of(body, local_of(fields[0]))
     table = part_of_place(["copy", first[1]], ["field 0", "deref"]) if first[0] == "addrOf" else None
+    if table and part_of_place(fields[1], ["field 1"]) == table:
+        # the same slice, lent on
+        return table_lent(body, ["copy", ["place", table, "lnil"]], arena, counting)
     called, of = call_of(body, local_of(fields[1]))
     right = called == counting and [local_of(one) for one in of] == [local_of(arena)]
     return table if right and table and kept(body, table) and is_table(kinds(body)[int(table)]) else None
