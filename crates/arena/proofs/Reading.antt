@@ -1,9 +1,9 @@
 -- Figures, which and check-up: from what the working function ensures of the needed part to what is promised of the whole. Assumes nothing.
-use Rattle.std.proofs.Common.{true≢false, Bool, List, ◌<◌, ◌∙◌, ◌≡◌, ap, arith, cond, inl, inr, leb, length, ltb, refl, sym, take as front, ℕ}
+use Rattle.std.proofs.Common.{false, true, true≢false, Bool, List, ◌<◌, ◌∙◌, ◌≡◌, ap, arith, cond, inl, inr, leb, length, ltb, refl, sym, take as front, ℕ}
 use Rattle.check_up.specs.Checked.{Checked, failed, passed}
 use Rattle.figures.specs.Summed.{Summed}
 use Rattle.meaning.specs.Answers.{Answer, after, bad_argument, check_up, figures, refused, sound, start, unsound, which}
-use Rattle.meaning.specs.Blocks.{arena, m_most}
+use Rattle.meaning.specs.Blocks.{m_most}
 use Rattle.table.specs.Table.{need}
 use Rattle.which.specs.Told.{Form, Told, nothing, told}
 use Rattle.terms.specs.Answers.{number, tells_verdict}
@@ -39,8 +39,8 @@ told_inside r (told e a b c) = record { from = λ z. a; to = λ z. b; inside = �
 -- what which promises
 pub which_served : {m a o k c x y : ℕ} {t part : List ℕ} (r : Answer) → Lent m a k t part → bad_argument m (which o) ≡ 0 → Told a c o part r x y → Promised m (which o) t t r × ToldInside m o r
 unfolding after
-which_served {m} {o = o} {k} {t = t} r x bad told =
-    let w = rw (x.same, x.cells) at told in
+which_served {m} {o = o} {k} {t = t} r x bad done =
+    let w = rw (x.same, x.cells) at done in
     (served_reading t x.suits k x.count r (argument_at_once t (which o) x.suits ∙ bad) (told_settled r w.form) (λ L g. (w.right L g, g)), told_inside r w.form)
 
 -- ---- check-up

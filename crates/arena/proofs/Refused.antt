@@ -1,6 +1,5 @@
 -- What the requests promise of one that is refused at once: refusals 6 and 5, and those of the argument. Assumes nothing.
-use Rattle.std.proofs.Common.{Bool, List, ◌<◌, ◌∙◌, ◌≡◌, ◌≤◌, ap, arith, cond, eq-eqb, false, le-leb, le-ltb, leb, leb-true, length, lt-ltb, ltb, ltb-false, ne_eqb, refl, subst, sym, true, ℕ}
-use Rattle.std.proofs.lemmas.Bool.{lt-leb}
+use Rattle.std.proofs.Common.{List, ◌<◌, ◌∙◌, ◌≡◌, ◌≤◌, ap, arith, cond, le-leb, le-ltb, leb, length, ltb, refl, subst, sym, ℕ}
 use Rattle.std.proofs.lemmas.Bool.Decides.{nat_tests}
 use Rattle.laws.proofs.AtOnce.{at_once_refused}
 use Rattle.laws.proofs.Exactly.{refusal_changes_nothing}

@@ -82,3 +82,7 @@ module _ {m : ℕ} (t : List ℕ) (s : Suits m (length t)) (k : ℕ) (e : k ≡ 
   -- and so it is where the table is only read
   pub served_reading : {q : Request} (r : Answer) → at_once t m q ≡ 0 → Settled q (take k t) (take k t) r → Right m q (take k t) (take k t) r → Promised m q t t r
   served_reading {q} r z f g = subst (λ (x : List ℕ). Promised m q t x r) (take-append-drop k t) (served (take k t) refl r z f g)
+
+-- what holds of the part p and of the rest of t holds where the cells that were lent end as p
+pub at_exit : (A : List ℕ → Type 0) (k : ℕ) (t : List ℕ) {p x rest : List ℕ} → x ≡ p → rest ≡ drop k t → A (p ++ drop k t) → A (x ++ rest)
+at_exit A k t e f w = rw (e, f) w

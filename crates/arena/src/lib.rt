@@ -77,7 +77,8 @@ pub fn start(t: &mut [u64], m: u64) -> Counted<()>
 {
     match admit(m, t.len()) {
         Ok(arena) => {
-            let mut book = Book::new(&mut t[..arena.cells()], arena);
+            let (cells, _) = t.split_at_mut(arena.cells());
+            let mut book = Book::over(cells, arena);
             start_table(&mut book);
             Counted {
                 answer: Ok(()),
@@ -98,7 +99,8 @@ pub fn take(t: &mut [u64], m: u64, n: u64) -> Counted<u64>
 {
     match admit_size(m, t.len(), n) {
         Ok(arena) => {
-            let mut book = Book::new(&mut t[..arena.cells()], arena);
+            let (cells, _) = t.split_at_mut(arena.cells());
+            let mut book = Book::over(cells, arena);
             let answer = take_block(&mut book, n);
             Counted {
                 answer,
@@ -119,7 +121,8 @@ pub fn give_back(t: &mut [u64], m: u64, o: u64) -> Counted<()>
 {
     match admit_offset(m, t.len(), o) {
         Ok(arena) => {
-            let mut book = Book::new(&mut t[..arena.cells()], arena);
+            let (cells, _) = t.split_at_mut(arena.cells());
+            let mut book = Book::over(cells, arena);
             let answer = give_block(&mut book, o);
             Counted {
                 answer,

@@ -1,3 +1,2 @@
--- Laws of what the C functions hand back: the values left out are 0, so every promise of the library is kept.
+-- What the C functions hand back: the values left out are 0.
 pub mod Shown
-pub mod Said

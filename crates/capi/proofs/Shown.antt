@@ -1,9 +1,6 @@
 -- The values of an answer that the C functions hand out; the others are 0 in every answer of the meaning. Assumes nothing.
-use mathlib.Core.Path.{◌≡◌, refl}
-use mathlib.Core.Bool.{Bool, cond, false, true}
-use mathlib.Core.Option.{Option, none, some}
-use Prim.Native.Nat.{ℕ}
-use lib.Dec.{eqb, ltb}
+use Rattle.std.proofs.Common.{Bool, ◌≡◌, cond, eqb, false, ltb, refl, true, ℕ}
+use Rattle.std.proofs.Math.Option.{Option, none, some}
 use Rattle.meaning.specs.Answers.{Answer, Request, answer, check_up, done, figures, found, give_back, holds, offset, or_refuse, place, refused, start, starts_at, take, which}
 use Rattle.meaning.specs.Blocks.{Block, Live, arena}
 use Rattle.meaning.specs.Search.{find}
@@ -16,24 +13,6 @@ shown check_up a = record { refusal = a.refusal; first = a.first; second = 0; th
 shown (take n) a = record { refusal = a.refusal; first = a.first; second = 0; third = 0 }
 shown (give_back o) a = refused a.refusal
 shown (which o) a = record { refusal = a.refusal; first = a.first; second = a.second; third = 0 }
-
--- the number is handed out
-pub shown_number : (q : Request) (a : Answer) → (shown q a).refusal ≡ a.refusal
-shown_number start a = refl
-shown_number figures a = refl
-shown_number check_up a = refl
-shown_number (take n) a = refl
-shown_number (give_back o) a = refl
-shown_number (which o) a = refl
-
--- nothing is lost of a refusal
-pub shown_refused : (q : Request) (n : ℕ) → shown q (refused n) ≡ refused n
-shown_refused start n = refl
-shown_refused figures n = refl
-shown_refused check_up n = refl
-shown_refused (take k) n = refl
-shown_refused (give_back o) n = refl
-shown_refused (which o) n = refl
 
 -- nothing is lost of the meaning's answer
 pub shown_answer : (m : ℕ) (L : Live) (q : Request) → shown q (answer m L q) ≡ answer m L q
