@@ -3,7 +3,7 @@
 Works on the code as it is proved and compiled (`mir.py`). There an element of a slice is reached by `offset` from the
 slice's pointer, its field 0, and then by a `deref`. A part of a slice is made by `offset` too, and is not dereferenced. So that no element is
 reached in another way, a slice of u64 stands nowhere but in a local or a parameter of its own, and as the cells of a book; one that stands by itself came in
-or is a part of one that did, and is lent to functions that take such a slice, and for the cells of a book. Slices of a constant, which is no table, are
+or is a part of one that did, and is lent to functions that take such a slice, to be split in two, and for the cells of a book. Slices of a constant, which is no table, are
 free where they are lent to nobody in the program.
 """
 from mir import assigns, calls, given_types, items, kinds, kinds_along, local_of, named, parameters, place_of, strayed, walk
@@ -285,6 +285,20 @@ pub fn wraps(t: &[u64]) -> Option<&[u64]> {
     if 3 < t.len() { Some(t) } else { None }
 }
 
+pub fn splits(t: &mut [u64]) -> usize {
+    let (first, rest) = t.split_at_mut(3);
+    count(first) / 2 + count(rest) / 2
+}
+
+pub fn splits_and_writes(t: &mut [u64]) {
+    t.split_at_mut(3).1[0] = 7;
+}
+
+pub fn splits_and_hands_out(t: &mut [u64]) -> (&mut [u64], usize) {
+    let (first, rest) = t.split_at_mut(3);
+    (first, 3)
+}
+
 pub fn pairs(t: &[u64]) -> (&[u64], usize) {
     (t, t.len())
 }
@@ -422,6 +436,8 @@ FAULTS = {
     "reads_as_any": "lends a slice of u64 to sample::first_of_any",
     "lends_as_any": "lends a slice of u64 to sample::itself",
     "wraps": "has a slice of u64 below the top of a type",
+    "splits_and_writes": "reaches 1 elements",
+    "splits_and_hands_out": "has a slice of u64 below the top of a type",
     "pairs": "has a slice of u64 below the top of a type",
     "RefMutSliceU64Cells::shown": "reaches 1 elements",
     "Book::peek": "reaches 1 elements",
@@ -431,6 +447,10 @@ FAULTS = {
     "lends_a_constant": "has a slice of u64 that is no part of one that came in",
     "finds_a_size_and_reads": "lends a slice of u64 to std::slice+T::first",
 }
+
+
+# by which a slice may be split in two parts
+SPLIT = "std::slice+T::split_at_mut"
 
 
 def is_table(kind):
@@ -449,6 +469,9 @@ def slices(body):
 def buried(body, holders):
     """How many slices of u64 a function's types have below their top, but for the cells of a table or a book: behind a reference, in an array, in a field of a struct."""
     known = {id(kind) for kind in kinds(body)}
+    # both parts of a slice that was split, on their way into locals of their own
+    pairs = {int(target[1]) for name, _, target in calls(body) if name == SPLIT and target[2] == "lnil"}
+    known |= {id(one) for number in pairs for one in given_types(kinds(body)[number])}
     for node in walk(body):
         if node[0] == "tyNamed" and node[1][1].strip('"') in holders:
             known |= {id(one) for one in given_types(node)}
@@ -548,6 +571,6 @@ def faults(bodies, accesses, makers, shown, holders, lists, hosts):
                 found += ["has a slice of u64 that is no part of one that came in"] if not all(
                     one and one <= {*parameters(body), "a call"} for one in (origins(body, one) for one in slices(body))) else []
             found += ["has a slice of u64 below the top of a type"] if buried(body, holders) and name not in shown else []
-            found += [f"lends a slice of u64 to {one}" for one in strayed(body, bodies, is_table) if one not in makers]
+            found += [f"lends a slice of u64 to {one}" for one in strayed(body, bodies, is_table) if one not in {*makers, SPLIT}]
         wrong += [f"{name} {one}" for one in dict.fromkeys(found)]
     return wrong

@@ -6,7 +6,7 @@ arena is that of m. Works on the code as it is proved and compiled (`mir.py`), a
 """
 import re
 
-from accesses import is_table
+from accesses import SPLIT, is_table
 from mir import assigns, callee, calls, items, kinds, local_of, parameters, place_of, set_by, target, walk
 
 # what `Book::new` and `Book::over` ask of the cells, and what an admission promises: the clause, and where its words come from
@@ -98,7 +98,47 @@ pub fn rightly_lent_on(t: &mut [u64], m: u64) -> u64 {
     }
 }
 
-pub fn one_of_two(t: &mut [u64], u: &mut [u64], m: u64) -> u64 {
+pub fn rightly_split(t: &mut [u64], m: u64) -> u64 {
+    match admit(m, t.len()) {
+        Ok(arena) => {
+            let (cells, _) = t.split_at_mut(arena.cells());
+            Book::new(cells, arena).arena.m
+        }
+        Err(why) => why,
+    }
+}
+
+pub fn the_rest(t: &mut [u64], m: u64) -> u64 {
+    match admit(m, t.len()) {
+        Ok(arena) => {
+            let (_, cells) = t.split_at_mut(arena.cells());
+            Book::new(cells, arena).arena.m
+        }
+        Err(why) => why,
+    }
+}
+
+pub fn split_elsewhere(t: &mut [u64], m: u64) -> u64 {
+    match admit(m, t.len()) {
+        Ok(arena) => {
+            let (cells, _) = t.split_at_mut(3);
+            Book::new(cells, arena).arena.m
+        }
+        Err(why) => why,
+    }
+}
+
+pub fn split_of_a_part(t: &mut [u64], m: u64) -> u64 {
+    match admit(m, t.len()) {
+        Ok(arena) => {
+            let (cells, _) = t[1..].split_at_mut(arena.cells());
+            Book::new(cells, arena).arena.m
+        }
+        Err(why) => why,
+    }
+}
+
+pub fn one_of_two<'a>(t: &'a mut [u64], u: &'a mut [u64], m: u64) -> u64 {
     match admit(m, t.len()) {
         Ok(arena) => {
             let mut cells = &mut t[..arena.cells()];
@@ -220,6 +260,9 @@ OTHER_CELLS = "makes its book over other cells than the first that its arena nee
 OTHER_ARENA = "has its arena from elsewhere than an admission of its own m and its table"
 # the functions of the example that are wrong, each with what is to be said of it
 FAULTS = {
+    "the_rest": OTHER_CELLS,
+    "split_elsewhere": OTHER_CELLS,
+    "split_of_a_part": OTHER_CELLS,
     "one_of_two": OTHER_CELLS,
     "all": OTHER_CELLS,
     "from_the_second": OTHER_CELLS,
@@ -287,22 +330,31 @@ def call_of(body, local):
     return (callee(found), items(found[2])) if found and found[0] == "call" else (None, [])
 
 
+def lent_on(body, operand):
+    """The slice that an operand is, back over the same slice lent on: what is assigned to it first, or the local where it is a parameter that is kept."""
+    local = local_of(operand)
+    value = value_of(body, local)
+    fields = items(value[1]) if value[0] == "aggregate" else []
+    if len(fields) == 2:
+        first = value_of(body, local_of(fields[0]))
+        slice_ = part_of_place(["copy", first[1]], ["field 0", "deref"]) if first[0] == "addrOf" else None
+        if slice_ and part_of_place(fields[1], ["field 1"]) == slice_:
+            return lent_on(body, ["copy", ["place", slice_, "lnil"]])
+        return [slice_, fields[1]]
+    if value[0] == "rvOpd" and local_of(value[1]):
+        return lent_on(body, value[1])
+    split, given = call_of(body, part_of_place(value[1], ["field 0"])) if value[0] == "rvOpd" else (None, [])
+    if split == SPLIT:
+        return [lent_on(body, given[0]), given[1]]
+    return local if local and kept(body, local) and is_table(kinds(body)[int(local)]) else None
+
+
 def table_lent(body, cells, arena, counting):
     """The parameter of which exactly the first cells that an arena says, by the function that counts them, are lent."""
-    made = value_of(body, local_of(cells))
-    if made[0] == "rvOpd":
-        return table_lent(body, made[1], arena, counting)
-    fields = items(made[1]) if made[0] == "aggregate" else []
-    if len(fields) != 2:
-        return None
-    first = value_of(body, local_of(fields[0]))
-    table = part_of_place(["copy", first[1]], ["field 0", "deref"]) if first[0] == "addrOf" else None
-    if table and part_of_place(fields[1], ["field 1"]) == table:
-        # the same slice, lent on
-        return table_lent(body, ["copy", ["place", table, "lnil"]], arena, counting)
-    called, of = call_of(body, local_of(fields[1]))
+    table, length = found if isinstance(found := lent_on(body, cells), list) else (None, None)
+    called, of = call_of(body, local_of(length)) if table else (None, [])
     right = called == counting and [local_of(one) for one in of] == [local_of(arena)]
-    return table if right and table and kept(body, table) and is_table(kinds(body)[int(table)]) else None
+    return table if right and isinstance(table, str) and kept(body, table) and is_table(kinds(body)[int(table)]) else None
 
 
 def admission(body, arena, table, own):
