@@ -558,11 +558,6 @@ def named(node):
     return [one for one in walk(node) if len(one) == 3 and one[0] == "place"]
 
 
-def places(node):
-    """Every place below a node: (local, steps)."""
-    return [(one[1], items(one[2])) for one in named(node)]
-
-
 def place_of(operand):
     """The place that an operand copies or moves, if it does."""
     if isinstance(operand, list) and len(operand) == 2 and isinstance(operand[1], list) and operand[1][:1] == ["place"]:
@@ -584,11 +579,6 @@ def assigns(body):
 def addressed(body):
     """The locals whose address, or the address of a part of them, is taken."""
     return {value[1][1] for _, value in assigns(body) if value[0] == "addrOf"}
-
-
-def changed(body):
-    """The locals that are set by an assignment or a call, or whose address is taken."""
-    return {target[1] for target, _ in assigns(body)} | {target[1] for _, _, target in calls(body)} | addressed(body)
 
 
 def calls(body):
@@ -632,10 +622,10 @@ def ways(code, done=()):
 def arms(switch):
     """The pieces of code that a switch chooses among."""
     found, rest = [], switch[2]
-    while rest != "noDefault":
-        found.append(rest[-2] if rest[0] == "arm" else rest[1])
-        rest = rest[-1] if rest[0] == "arm" else "noDefault"
-    return found
+    while rest[0] == "arm":
+        found.append(rest[2])
+        rest = rest[3]
+    return found + ([rest[1]] if rest[0] == "default" else [])
 
 
 def target(statement):

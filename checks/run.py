@@ -256,7 +256,8 @@ def only_needed_lent():
     bodies = all_code()
     wrong = needed.faults(bodies, REQUESTS, MAKERS, "terms::arenas::Arena::cells", source_of)
     for what, clause, old, new in needed.EDITS:
-        said = needed.faults(bodies, REQUESTS, MAKERS, "terms::arenas::Arena::cells", lambda name: re.sub(old, new, source_of(name)) if (name in MAKERS) == (clause is needed.ASKED) else source_of(name))
+        edited = {name: re.sub(old, new, source_of(name)) for name in bodies if (name in MAKERS) == (clause is needed.ASKED)}
+        said = needed.faults(bodies, REQUESTS, MAKERS, "terms::arenas::Arena::cells", lambda name: edited.get(name) or source_of(name))
         if len(said) != len(REQUESTS):
             wrong.append(f"not seen in all six requests: {what}")
     return wrong
