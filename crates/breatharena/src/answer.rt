@@ -1,6 +1,5 @@
 // What the player writes: what a request answered, and what it had expected where it stops.
 use std::fmt;
-use terms::Reply;
 
 // What a request answered.
 #[derive(Clone, Copy)]
@@ -23,18 +22,18 @@ pub enum Answer {
 }
 
 impl Answer {
-    ghost use Rattle.std.specs.Prelude.{◌≡◌, ◌<◌};
+    ghost use Rattle.std.specs.Prelude.{◌≡◌, MatchResult};
+    ghost use Rattle.terms.specs.Answers.{number};
     ghost use Rattle.breatharena.specs.declared.answer.Answer.TheVariants.{Refusal};
 
-    // What a reply says: its refusal, or what `granted` makes of its values.
-    pub fn of<F: FnOnce(Reply) -> Answer>(reply: Reply, granted: F) -> Answer
+    // What a request says: its refusal, or what `granted` makes of what it tells.
+    pub fn of<T, F: FnOnce(T) -> Answer>(answer: Result<T, terms::Refusal>, granted: F) -> Answer
         requires { F.IsAlwaysCallable granted }
-        ensures granted { reply.refusal ≡ 0 → F.post granted reply result }
-        ensures refused { 0 < reply.refusal → result ≡ Refusal reply.refusal }
+        ensures { MatchResult answer (λ told. F.post granted told result) (λ why. result ≡ Refusal (number why)) }
     {
-        match reply.refusal {
-            0 => granted(reply),
-            number => Answer::Refusal(number),
+        match answer {
+            Ok(told) => granted(told),
+            Err(why) => Answer::Refusal(why.number()),
         }
     }
 }

@@ -100,7 +100,7 @@ impl Host {
     fn start(&mut self) -> Answer {
         let m = self.m;
         let counted = arena::start(self.lent(), m);
-        Answer::of(counted.reply, |_| Answer::Done)
+        Answer::of(counted.answer, |_| Answer::Done)
     }
 
     // `take N`.
@@ -108,7 +108,7 @@ impl Host {
         let m = self.m;
         let counted = arena::take(self.lent(), m, bytes);
         self.take_cost = self.take_cost.max(counted.spent);
-        Answer::of(counted.reply, |reply| Answer::Offset(reply.first))
+        Answer::of(counted.answer, |start| Answer::Offset(start))
     }
 
     // `give N`: give back the block at an offset.
@@ -116,7 +116,7 @@ impl Host {
         let m = self.m;
         let counted = arena::give_back(self.lent(), m, offset);
         self.give_cost = self.give_cost.max(counted.spent);
-        Answer::of(counted.reply, |_| Answer::Done)
+        Answer::of(counted.answer, |_| Answer::Done)
     }
 
     // `which N`.
@@ -125,10 +125,10 @@ impl Host {
         let counted = arena::which(self.lent(), m, offset);
         self.which_cost = self.which_cost.max(counted.spent);
         Answer::of(
-            counted.reply,
-            |reply| Answer::Block {
-                start: reply.first,
-                size: reply.second,
+            counted.answer,
+            |block| Answer::Block {
+                start: block.start,
+                size: block.size,
             },
         )
     }
@@ -138,11 +138,11 @@ impl Host {
         let m = self.m;
         let counted = arena::figures(self.lent(), m);
         Answer::of(
-            counted.reply,
-            |reply| Answer::Figures {
-                live: reply.first,
-                held: reply.second,
-                room: reply.third,
+            counted.answer,
+            |figures| Answer::Figures {
+                live: figures.live,
+                held: figures.held,
+                room: figures.room,
             },
         )
     }
@@ -151,10 +151,14 @@ impl Host {
     fn check_up(&mut self) -> Answer {
         let m = self.m;
         let counted = arena::check_up(self.lent(), m);
-        Answer::of(counted.reply, |reply| match reply.first {
-            1 => Answer::Sound,
-            _ => Answer::Unsound,
-        })
+        Answer::of(
+            counted.answer,
+            |is_sound| if is_sound {
+                Answer::Sound
+            } else {
+                Answer::Unsound
+            },
+        )
     }
 
     // `flip CELL BIT`: a fault in the lent table.

@@ -1,8 +1,5 @@
 -- What was packed into a cell is read out of it again. Assumes nothing.
-use mathlib.Core.Path.{◌≡◌}
-use Prim.Native.Nat.{◌<◌, ℕ}
-use lib.Bits.{bit_or}
-use native.Mathlib.Omega.{arith}
+use Rattle.std.proofs.Common.{◌<◌, ◌≡◌, arith, bit_or, ℕ}
 use Rattle.cells.specs.Cell.{joined, mask_in, packed, room_in, room_of_pair, room_span, tag_in, tag_span}
 
 module _ (room tag mask : ℕ) (r : room < room_span) (g : tag < tag_span) where

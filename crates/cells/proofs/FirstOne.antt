@@ -1,5 +1,5 @@
 -- A search of the digits of a bitmap for the first 1. Assumes nothing.
-use Rattle.std.proofs.Common.{◌≡◌, ◌<◌, ◌≤◌, ◌^◌, ℕ, Option, Some, None, MatchOption, arith, false, refl, true}
+use Rattle.std.proofs.Common.{MatchOption, None, Option, Some, ◌<◌, ◌^◌, ◌≡◌, ◌≤◌, arith, false, refl, true, ℕ}
 use Rattle.std.specs.Option.{IsSome}
 use Rattle.digits.proofs.Digits.{zeros_lt}
 use Rattle.digits.specs.Digits.{bit_at}

@@ -1,7 +1,5 @@
 -- `cells::all_open` meets its contract: the n digits are the top one and all below it. Assumes nothing.
-use Prim.Native.Nat.{◌-◌}
-use lib.Pow.{pow_mono, pow_pos}
-use native.Mathlib.Omega.{arith}
+use Rattle.std.proofs.Common.{◌-◌, arith, pow_mono, pow_pos}
 use Rattle.digits.proofs.Digits.{pow_half}
 use Rattle.cells.proofs.all_open.Goals as goal
 

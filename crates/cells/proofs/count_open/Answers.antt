@@ -1,7 +1,6 @@
 -- `cells::count_open` meets its contract: there are at most 64 digits, and a `u64` holds their number. Assumes nothing.
-use mathlib.Core.Path.{refl}
-use lib.Count as Count
-use native.Mathlib.Omega.{arith}
+use Rattle.std.proofs.Common.{arith, refl}
+use Rattle.std.specs.Int.Count as Count
 use Rattle.cells.proofs.count_open.Goals as goal
 
 pub overflow_cast-result : goal.overflow_cast-result

@@ -1,6 +1,6 @@
 -- `cells::either` meets its contract. Assumes nothing.
-use mathlib.Core.Path.{refl}
-use lib.Bits.{or_lt}
+use Rattle.std.proofs.Common.{refl}
+use Rattle.std.proofs.lemmas.Nat.{or_lt}
 use Rattle.cells.specs.Cell.{mask_digits}
 use Rattle.cells.proofs.either.Goals as goal
 

@@ -1,5 +1,5 @@
 -- `cells::is_open` meets its contract. Assumes nothing.
-use mathlib.Core.Path.{sym}
+use Rattle.std.proofs.Common.{sym}
 use Rattle.digits.proofs.Digits.{bit_shr}
 use Rattle.cells.proofs.is_open.Goals as goal
 

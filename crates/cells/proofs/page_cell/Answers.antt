@@ -1,7 +1,6 @@
 -- `cells::page_cell` meets its contract. Assumes nothing.
-use borrow.Author.Tests.{eq-eqb, ne_eqb}
-use lib.Pow.{pow-lt}
-use native.Mathlib.Omega.{arith}
+use Rattle.std.proofs.Common.{arith, eq-eqb, ne_eqb}
+use Rattle.std.proofs.Math.Pow.{pow-lt}
 use Rattle.cells.proofs.page_cell.Goals as goal
 
 pub overflow_mul-result : goal.overflow_mul-result

@@ -1,5 +1,5 @@
 -- `cells::with_slot` meets its contract: one more digit among 64 fits. Assumes nothing.
-use native.Mathlib.Omega.{arith}
+use Rattle.std.proofs.Common.{arith}
 use Rattle.digits.proofs.Digits.{set_lt}
 use Rattle.cells.proofs.with_slot.Goals as goal
 

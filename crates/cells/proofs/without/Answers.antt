@@ -1,5 +1,5 @@
 -- `cells::without` meets its contract: a number with a digit 1 is at least that power. Assumes nothing.
-use native.Mathlib.Omega.{arith}
+use Rattle.std.proofs.Common.{arith}
 use Rattle.digits.proofs.Digits.{bit_le}
 use Rattle.cells.proofs.without.Goals as goal
 
