@@ -63,8 +63,7 @@ fn level_sound(book: &mut Shown<'_>, h: u64) -> bool
     ensures cost { spent_of book.new ≤ spent_of book.old + 3 * 2 ^ (book.old.arena.m - h) }
     ensures cost_leaves { h ≡ 0 → spent_of book.new ≤ spent_of book.old + 2 * 2 ^ (book.old.arena.m - h) }
 {
-    let first = book.arena.pages() >> h;
-    for v in first..2 * first {
+    for v in book.arena.level(h) {
         if !sound_at(book, h, v) {
             return false;
         }

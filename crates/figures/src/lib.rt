@@ -73,14 +73,6 @@ fn node_sums(book: &mut Shown<'_>, h: u64, v: usize) -> Sums
     }
 }
 
-// The first node of height h.
-fn first_of_level(arena: Arena, h: u64) -> usize
-    requires { h ≤ arena.m }
-    ensures { result ≡ 2 ^ (arena.m - h) }
-{
-    1 << (arena.m - h)
-}
-
 // What the nodes of height h add.
 #[tactic(auto, using(crate::proofs::Levels::level_start, crate::proofs::Levels::level_next))]
 fn level_sums(book: &mut Shown<'_>, h: u64) -> Sums
@@ -92,9 +84,8 @@ fn level_sums(book: &mut Shown<'_>, h: u64) -> Sums
     ensures cost { spent_of book.new ≤ spent_of book.old + 2 * 2 ^ (book.old.arena.m - h) }
     ensures cost_above { 0 < h → spent_of book.new ≤ spent_of book.old + 2 ^ (book.old.arena.m - h) }
 {
-    let first = first_of_level(book.arena, h);
     let mut sums = Sums::default();
-    for v in first..2 * first {
+    for v in book.arena.level(h) {
         sums += node_sums(book, h, v);
     }
     sums

@@ -23,12 +23,12 @@ run_node m o leaf h v inside place low node =
     (rw node x.0, rw node x.1, omega (arith, x.1, pow_mono less))
 
 module _ (m o leaf h v first : ℕ) (t : List ℕ) (inside : o < arena m) (place : leaf ≡ 2 ^ m + o / page_bytes) (low : h ≤ m)
-    (found : h ≡ located (suc m) t leaf 0) (tag : tag_in (get_or t (above h leaf) 0) ≡ whole_tag)
+    (found : h ≡ located (suc m) t (2 ^ m + o / page_bytes) 0) (tag : tag_in (get_or t (above h (2 ^ m + o / page_bytes)) 0) ≡ whole_tag)
     (node : v ≡ above h leaf) (starts : first ≡ (large h (v - 2 ^ (m - h))).start)
   where
     -- the block holds the byte
     run_held : {L : Live} → Stands m L t → find (holds o) L ≡ some (large h (v - 2 ^ (m - h)))
-    run_held x = located_large x o h v inside (found ∙ ap (λ (y : ℕ). located (suc m) t y 0) place) (node ∙ ap (above h) place) low (rw node tag)
+    run_held x = let at : v ≡ above h (2 ^ m + o / page_bytes) = node ∙ ap (above h) place in located_large x o h v inside found at low (rw at tag)
 
     -- it starts elsewhere
     pub run_refused : (s : ℕ) → o ≢ first → Gave m (2 * (m - h) + 1) o t t (refused 4) s s

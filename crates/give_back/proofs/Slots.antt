@@ -1,5 +1,5 @@
 -- Giving back where the leaf of byte o serves size number c: for `give_slot`. Assumes nothing.
-use Rattle.std.proofs.Common.{List, ◌%◌, ◌*◌, ◌+◌, ◌/◌, ◌<◌, ◌^◌, ◌∙◌, ◌≡◌, ◌≢◌, ◌≤◌, ap, arith, cond, div-add-mod', eqb, eqb-true, false, get_or, ne_eqb, pow_pos, refl, set, subst, suc, sym, true, ℕ, ⊎_elim}
+use Rattle.std.proofs.Common.{List, ◌%◌, ◌*◌, ◌+◌, ◌/◌, ◌<◌, ◌^◌, ◌∙◌, ◌≡◌, ◌≢◌, ◌≤◌, arith, cond, div-add-mod', eqb, eqb-true, false, get_or, ne_eqb, pow_pos, refl, set, subst, suc, sym, true, ℕ, ⊎_elim}
 use Rattle.std.proofs.Math.Option.{none, some}
 use Rattle.std.proofs.lemmas.Bool.{eqb-false}
 use Rattle.cells.specs.Cell.{packed, tag_in}
@@ -23,11 +23,11 @@ slot_start : (c o : ℕ) → o ≡ (slot c (o / page_bytes) (slot_of c o)).start
 slot_start c o = omega (arith, div-add-mod' (o % page_bytes) (small c))
 
 module _ (m o leaf c : ℕ) (t : List ℕ) (inside : o < arena m) (place : leaf ≡ 2 ^ m + o / page_bytes) (c< : c < size_count)
-    (found : 0 ≡ located (suc m) t leaf 0) (tag : tag_in (get_or t leaf 0) ≡ c + 1)
+    (found : 0 ≡ located (suc m) t (2 ^ m + o / page_bytes) 0) (tag : tag_in (get_or t (2 ^ m + o / page_bytes) 0) ≡ c + 1)
   where
     -- what the page's bitmap says of the byte
     page : {L : Live} → Stands m L t → InPage m L t o 0 leaf c
-    page x = located_small x o 0 leaf inside (found ∙ ap (λ (y : ℕ). located (suc m) t y 0) place) place c (omega arith) tag (omega arith)
+    page x = let here : tag_in (get_or t leaf 0) ≡ c + 1 = rw place tag in located_small x o 0 leaf inside found place c (omega arith) here (omega arith)
 
     -- the byte is not the first of its slot
     pub slot_within_refused : (size s : ℕ) → size ≡ small c → o % page_bytes % size ≢ 0 → Gave m (2 * m + 3) o t t (refused 4) s s

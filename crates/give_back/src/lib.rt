@@ -15,17 +15,16 @@ use terms::{PAGE_BYTES, Refusal, Size};
 use walks::{Written, map_of, node_above};
 
 // The large block of the node h levels above the leaf of the byte o, which has that tag, is free from now on if it starts at o.
-fn give_run(book: &mut Written<'_>, o: u64, leaf: usize, h: u64) -> Result<(), Refusal>
+fn give_run(book: &mut Written<'_>, o: u64, h: u64) -> Result<(), Refusal>
     requires o_in_arena { o < arena book.old.arena.m }
-    requires leaf_of_o { leaf ≡ 2 ^ book.old.arena.m + o / page_bytes }
     requires h_in_range { h ≤ book.old.arena.m }
-    requires located_at { h ≡ located (suc book.old.arena.m) (cells_of book.old) leaf 0 }
-    requires block_tag { tag_in (get_or (cells_of book.old) (above h leaf) 0) ≡ whole_tag }
+    requires located_at { h ≡ located (suc book.old.arena.m) (cells_of book.old) (2 ^ book.old.arena.m + o / page_bytes) 0 }
+    requires block_tag { tag_in (get_or (cells_of book.old) (above h (2 ^ book.old.arena.m + o / page_bytes)) 0) ≡ whole_tag }
     requires few_spent { spent_of book.old < 2 ^ 21 }
     ensures same_book { IsSameBook book.old book.new }
     ensures gave { let m = book.old.arena.m in Gave m (2 * (m - h) + 1) o (cells_of book.old) (cells_of book.new) (as_answer is_done result) (spent_of book.old) (spent_of book.new) }
 {
-    let v = node_above(leaf, h);
+    let v = node_above(book.arena.leaf_at(o), h);
     if o != book.arena.run_offset(h, v) {
         return Err(Refusal::NotLive);
     }
@@ -59,11 +58,10 @@ fn page_left(size: Size, bits: u64) -> Page
 }
 
 // The slot that starts at o is not live from now on, if there is one and it is live; its page serves that size.
-fn give_slot(book: &mut Written<'_>, o: u64, leaf: usize, size: Size) -> Result<(), Refusal>
+fn give_slot(book: &mut Written<'_>, o: u64, size: Size) -> Result<(), Refusal>
     requires o_in_arena { o < arena book.old.arena.m }
-    requires leaf_of_o { leaf ≡ 2 ^ book.old.arena.m + o / page_bytes }
-    requires located_at { 0 ≡ located (suc book.old.arena.m) (cells_of book.old) leaf 0 }
-    requires page_tag { tag_in (get_or (cells_of book.old) leaf 0) ≡ size.number + 1 }
+    requires located_at { 0 ≡ located (suc book.old.arena.m) (cells_of book.old) (2 ^ book.old.arena.m + o / page_bytes) 0 }
+    requires page_tag { tag_in (get_or (cells_of book.old) (2 ^ book.old.arena.m + o / page_bytes) 0) ≡ size.number + 1 }
     requires few_spent { spent_of book.old < 2 ^ 21 }
     ensures same_book { IsSameBook book.old book.new }
     ensures gave { let m = book.old.arena.m in Gave m (2 * m + 3) o (cells_of book.old) (cells_of book.new) (as_answer is_done result) (spent_of book.old) (spent_of book.new) }
@@ -77,6 +75,7 @@ fn give_slot(book: &mut Written<'_>, o: u64, leaf: usize, size: Size) -> Result<
     if size.slots() <= i {
         return Err(Refusal::NotLive);
     }
+    let leaf = book.arena.leaf_at(o);
     let bits = book.get(map_of(book.arena, leaf));
     if is_open(bits, i) {
         return Err(Refusal::NotLive);
@@ -98,8 +97,8 @@ pub fn give_block(book: &mut Written<'_>, o: u64) -> Result<(), Refusal>
         return Err(Refusal::NotLive);
     };
     match found.tag {
-        Tag::Whole => give_run(book, o, leaf, found.height),
-        Tag::Page(size) if found.height == 0 => give_slot(book, o, leaf, size),
+        Tag::Whole => give_run(book, o, found.height),
+        Tag::Page(size) if found.height == 0 => give_slot(book, o, size),
         _ => Err(Refusal::NotLive),
     }
 }

@@ -36,7 +36,6 @@ pub fn start_table(book: &mut Written<'_>)
     fill(book, 2 * pages..3 * pages, 0);
     fill(book, 0..1, 0);
     for h in 0..=book.arena.m {
-        let first = pages >> h;
-        fill(book, first..2 * first, vacant_cell(h));
+        fill(book, book.arena.level(h), vacant_cell(h));
     }
 }

@@ -76,10 +76,6 @@ node_left m h v l n = let z = next_level m h l in record { from = omega (arith, 
 pub node_right : (m h v : ℕ) → h < m → NodeOf m (suc h) v → NodeOf m h (2 * v + 1)
 node_right m h v l n = let z = next_level m h l in record { from = omega (arith, n.from); below = omega (arith, n.below) }
 
--- every node is in the tree's part of the table
-pub node_small : (m h v : ℕ) → NodeOf m h v → (0 < v) × (v < 2 * 2 ^ m)
-node_small m h v n = (omega (arith, n.from, pow_pos (m - h)), omega (arith, n.below, pow_mono {i = m - h} {j = m} (omega arith)))
-
 -- ---- how deep a node is
 
 -- the depth of a node is that of its level

@@ -40,7 +40,7 @@ fn slot_offered(size: Size, cell: u64, bits: u64) -> Option<u64>
     ensures { MatchOption result (OffersNone size.number cell bits) (Offers size.number cell bits) }
 {
     match tag_of(cell) {
-        Some(Tag::Page(served)) if served.number == size.number && bits != 0 => {
+        Some(Tag::Page(served)) if served == size && bits != 0 => {
             Some(lowest(bits)).filter(|i| *i < size.slots())
         }
         _ => None,

@@ -6,6 +6,7 @@ ghost use Rattle.meaning.specs.Answers.{k_for};
 
 use crate::answers::Refusal;
 use crate::small::Size;
+use std::ops::Range;
 
 // The bytes of a page.
 pub const PAGE_BYTES: u64 = 1024;
@@ -59,6 +60,16 @@ impl Arena {
         run_bytes(self.m)
     }
 
+    // The nodes of height h (docs/TABLE.md).
+    pub fn level(self, h: u64) -> Range<usize>
+        requires { h ≤ self.m }
+        ensures starts { result.start ≡ 2 ^ (self.m - h) }
+        ensures ends { result.end ≡ 2 * 2 ^ (self.m - h) }
+    {
+        let first = run_pages(self.m - h);
+        first..2 * first
+    }
+
     // The cells that a table for this arena needs (docs/TABLE.md).
     pub fn cells(self) -> usize
         ensures { result ≡ 3 * 2 ^ self.m }
@@ -88,7 +99,7 @@ impl Arena {
         ensures starts { result ≡ (large k (v - 2 ^ (self.m - k))).start }
         ensures inside { result + page_bytes * 2 ^ k ≤ arena self.m }
     {
-        let place = v - run_pages(self.m - k);
+        let place = v - self.level(k).start;
         place as u64 * run_bytes(k)
     }
 

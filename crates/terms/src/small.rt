@@ -14,7 +14,7 @@ pub const SIZE_COUNT: u64 = 10;
 const SMALL_SIZES: [u64; 10] = [16, 32, 48, 64, 96, 128, 192, 256, 384, 512];
 
 // A small size, by its number.
-#[derive(Clone, Copy)]
+#[derive(Clone, Copy, PartialEq, Eq)]
 pub struct Size {
     pub number: u64,
     pub ghost in_range: { number < size_count },

@@ -18,11 +18,11 @@ pub index_fits : (c x size : ℕ) → size ≡ small c → x % page_bytes / size
 index_fits c x size sized = (div-lt_iff_lt-mul {k = size} {x = x % page_bytes} {y = 64} (omega (arith, small_pos c))).1 (omega (arith, small_pos c))
 
 module _ (m o leaf c s size : ℕ) (t : List ℕ) (inside : o < arena m) (page : leaf ≡ 2 ^ m + o / page_bytes) (number : c < size_count)
-    (here : 0 ≡ located (suc m) t leaf 0) (tagged : tag_in (get_or t leaf 0) ≡ c + 1) (sized : size ≡ small c)
+    (here : 0 ≡ located (suc m) t (2 ^ m + o / page_bytes) 0) (tagged : tag_in (get_or t (2 ^ m + o / page_bytes) 0) ≡ c + 1) (sized : size ≡ small c)
   where
     -- the page of the byte serves size number c, on a table that stands for L
     served : (L : Live) → Stands m L t → InPage m L t o 0 leaf c
-    served L st = located_small st o 0 leaf inside (here ∙ ap (λ (x : ℕ). located (suc m) t x 0) page) page c (omega arith) tagged (omega arith)
+    served L st = let tag : tag_in (get_or t leaf 0) ≡ c + 1 = rw page tagged in located_small st o 0 leaf inside here page c (omega arith) tag (omega arith)
 
     -- the code's slot is the byte's
     index : o % page_bytes / size ≡ slot_of c o

@@ -14,11 +14,10 @@ use terms::{Block, PAGE_BYTES, Refusal, Size, run_bytes};
 use walks::{Shown, map_of, node_above};
 
 // The slot that holds the byte o, if there is one and it is live; its page serves that size.
-fn tell_slot(book: &mut Shown<'_>, o: u64, leaf: usize, size: Size) -> Result<Block, Refusal>
+fn tell_slot(book: &mut Shown<'_>, o: u64, size: Size) -> Result<Block, Refusal>
     requires o_in_arena { o < arena book.old.arena.m }
-    requires leaf_of_o { leaf ≡ 2 ^ book.old.arena.m + o / page_bytes }
-    requires located_at { 0 ≡ located (suc book.old.arena.m) (cells_of book.old) leaf 0 }
-    requires page_tag { tag_in (get_or (cells_of book.old) leaf 0) ≡ size.number + 1 }
+    requires located_at { 0 ≡ located (suc book.old.arena.m) (cells_of book.old) (2 ^ book.old.arena.m + o / page_bytes) 0 }
+    requires page_tag { tag_in (get_or (cells_of book.old) (2 ^ book.old.arena.m + o / page_bytes) 0) ≡ size.number + 1 }
     requires few_spent { spent_of book.old < 2 ^ 21 }
     ensures kept { IsKept book.old book.new }
     ensures told { Told book.old.arena.m 1 o (cells_of book.old) (as_answer tells_block result) (spent_of book.old) (spent_of book.new) }
@@ -28,6 +27,7 @@ fn tell_slot(book: &mut Shown<'_>, o: u64, leaf: usize, size: Size) -> Result<Bl
     if size.slots() <= i {
         return Err(Refusal::NotLive);
     }
+    let leaf = book.arena.leaf_at(o);
     let bits = book.get(map_of(book.arena, leaf));
     if is_open(bits, i) {
         return Err(Refusal::NotLive);
@@ -56,7 +56,7 @@ pub fn tell_block(book: &mut Shown<'_>, o: u64) -> Result<Block, Refusal>
                 .run_offset(found.height, node_above(leaf, found.height)),
             size: run_bytes(found.height),
         }),
-        Tag::Page(size) if found.height == 0 => tell_slot(book, o, leaf, size),
+        Tag::Page(size) if found.height == 0 => tell_slot(book, o, size),
         _ => Err(Refusal::NotLive),
     }
 }

@@ -7,7 +7,8 @@ pub returns-then-not-level_sound-clause-verdict : goal.returns-then-not-level_so
 returns-then-not-level_sound-clause-verdict c =
     let cells : c.loop-h.book.cells ≡ c.args.book.now.cells = cc in
     let arena : c.loop-h.book.arena ≡ c.args.book.now.arena = cc in
-    let within : c.loop-h.h ≤ c.loop-h.book.arena.m = rw c.loop-h.invariant.kept.1 c.loop-h-test.true in
+    let same : c.loop-h.book.arena.m ≡ c.get.new.self.arena.m = cc in
+    let within : c.loop-h.h ≤ c.loop-h.book.arena.m = omega arith in
     rw (← cells, ← arena) (level_failed within c.if-not-level_sound.ensures.verdict)
 
 pub loop-h-preserved : goal.loop-h-preserved

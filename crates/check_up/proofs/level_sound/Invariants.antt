@@ -5,10 +5,12 @@ use Rattle.walks.specs.Books.{IsKept, cells_of, spent_of}
 use Rattle.check_up.proofs.level_sound.Given as goal
 
 abbrev pub invariant-loop-v : goal.invariant-loop-v
-invariant-loop-v l = record {
-  width : l.first ≡ 2 ^ (l.initial.book.arena.m - l.h);
+invariant-loop-v l = let first = 2 ^ (l.initial.book.arena.m - l.h) in record {
+  from : first ≤ l.v-iterator.start;
+  in_order : l.v-iterator.start ≤ l.v-iterator.end;
+  to : l.v-iterator.end ≡ 2 * first;
   kept : IsKept l.initial.book l.book;
-  counted : spent_of l.book ≤ spent_of l.initial.book + 3 * (l.v - l.first);
-  leaves : l.h ≡ 0 → spent_of l.book ≤ spent_of l.initial.book + 2 * (l.v - l.first);
-  sound : RunSound (cells_of l.initial.book) (2 ^ l.initial.book.arena.m) l.h l.first l.v;
+  counted : spent_of l.book ≤ spent_of l.initial.book + 3 * (l.v-iterator.start - first);
+  leaves : l.h ≡ 0 → spent_of l.book ≤ spent_of l.initial.book + 2 * (l.v-iterator.start - first);
+  sound : RunSound (cells_of l.initial.book) (2 ^ l.initial.book.arena.m) l.h first l.v-iterator.start;
 }
