@@ -1,10 +1,5 @@
 -- No memory of the past: two units that stand for one set of live blocks, or that are started first, answer alike and end alike. Assumes nothing.
-use mathlib.Core.Path.{◌∙◌, ◌≡◌, sym}
-use mathlib.Core.Bool.{true}
-use mathlib.Core.List.{List, []}
-use Prim.Native.Nat.{ℕ}
-use lib.ListN.{length, length-take, take as first_of}
-use native.Mathlib.Omega.{arith}
+use Rattle.std.proofs.Common.{List, [], ◌∙◌, ◌≡◌, arith, length, length-take, sym, take as first_of, true, ℕ}
 use Rattle.arena.specs.Promises.{at_once}
 use Rattle.meaning.specs.Answers.{start}
 use Rattle.meaning.specs.Blocks.{Live}

@@ -1,23 +1,17 @@
 -- A unit's whole life: what holds at every moment of every run, of the definitions and then of the code. Assumes nothing.
-use mathlib.Core.Path.{◌≡◌, refl, subst, sym}
-use mathlib.Core.Logic.{◌⊎◌}
-use mathlib.Core.Bool.{true}
-use mathlib.Core.List.{List, Memᴰ, [], ◌++◌, ◌∷◌}
-use Prim.Native.Nat.{◌%◌, ◌≤◌, ℕ}
-use lib.ListN.{length, take as first_of}
+use Rattle.std.proofs.Common.{List, [], ◌%◌, ◌++◌, ◌∷◌, ◌≡◌, ◌≤◌, ◌⊎◌, length, refl, subst, sym, take as first_of, true, ℕ}
+use mathlib.Core.List.{Memᴰ}
 use Rattle.arena.specs.Promises.{Exact, at_once}
 use Rattle.laws.proofs.Apart.{Disjoint, live_aligned, live_apart, live_inside}
 use Rattle.laws.proofs.Exactly.{Given, Taken, give_back_removes, take_adds}
 use Rattle.laws.proofs.Histories.{after_all_append, always_allowed}
 use Rattle.laws.proofs.Refusals.{refused_only_if_none}
-use Rattle.meaning.specs.Answers.{Request, after, answer, check_up, done, give_back, offset, refused, sound, start, take}
+use Rattle.meaning.specs.Answers.{Answer, Request, after, answer, check_up, done, give_back, offset, refused, sound, start, take}
 use Rattle.meaning.specs.Blocks.{Allowed, Block, Live, alignment, allowed_none, arena, ends, m_most}
 use Rattle.meaning.specs.Candidates.{Candidate}
 use Rattle.meaning.specs.Runs.{after_all}
 use Rattle.table.proofs.OneTable.{some_table}
 use Rattle.table.specs.Table.{Stands, need}
-use Rattle.terms.specs.Reply.{as_answer}
-use Rattle.terms.specs.declared.Reply.{Reply}
 use Rattle.sequence.proofs.Alike.{same_cells}
 use Rattle.sequence.specs.Numbers.{begins_with_start, requests_of}
 use Rattle.sequence.specs.Serving.{Promised, Serves}
@@ -63,8 +57,8 @@ every_moment m rs =
 pub data Lived (m : ℕ) : List Request → List ℕ → Type 0 where
   born : (requests t t' a' : List ℕ) → begins_with_start requests ≡ true → at_once t m start ≡ 0 → Serves m requests t t' a' → Lived m (requests_of requests) t'
   lived : (rs : List Request) (requests t t' a' : List ℕ) → Lived m rs t → Serves m requests t t' a' → Lived m (rs ++ requests_of requests) t'
-  began : (t t' : List ℕ) (r : Reply) → at_once t m start ≡ 0 → Promised m start t t' r → Lived m (start ∷ []) t'
-  asked : (rs : List Request) (q : Request) (t t' : List ℕ) (r : Reply) → Lived m rs t → Promised m q t t' r → Lived m (rs ++ (q ∷ [])) t'
+  began : (t t' : List ℕ) (r : Answer) → at_once t m start ≡ 0 → Promised m start t t' r → Lived m (start ∷ []) t'
+  asked : (rs : List Request) (q : Request) (t t' : List ℕ) (r : Answer) → Lived m rs t → Promised m q t t' r → Lived m (rs ++ (q ∷ [])) t'
 
 -- the table stands for the live blocks of the run
 pub lived_stands : {m : ℕ} {rs : List Request} {t : List ℕ} → Lived m rs t → Stands m (after_all m [] rs) t
@@ -75,7 +69,7 @@ lived_stands (began t t' r o p) = (p.own o).1
 lived_stands {m} (asked rs q t t' r l p) = subst (λ (L : Live). Stands m L t') (sym (after_all_append m [] rs (q ∷ []))) (p.right (after_all m [] rs) (lived_stands l)).1
 
 -- so a check-up says sound
-pub lived_sound : {m : ℕ} {rs : List Request} {t : List ℕ} {r : Reply} → Lived m rs t → Exact m t r → as_answer r ≡ sound
+pub lived_sound : {m : ℕ} {rs : List Request} {t : List ℕ} {r : Answer} → Lived m rs t → Exact m t r → r ≡ sound
 lived_sound {m} {rs} l x = x.is_sound (after_all m [] rs) (lived_stands l)
 
 -- and two units whose runs leave the same live blocks have the same needed cells, however different their lives were

@@ -1,10 +1,6 @@
 -- Requests and answers as numbers, where lists are joined; and one request more of a list. Assumes nothing.
-use mathlib.Core.Path.{◌∙◌, ◌≡◌, ap, refl}
-use mathlib.Core.List.{List, [], ◌++◌, ◌∷◌}
-use Prim.Native.Nat.{◌%◌, ◌+◌, ◌≤◌, suc, zero, ℕ}
-use lib.ListN.{get_or, length, length-take, take as first_of}
-use native.Mathlib.Numerals.{add-one, add-two}
-use native.Mathlib.Omega.{arith}
+use Rattle.std.proofs.Common.{List, [], ◌%◌, ◌++◌, ◌+◌, ◌∙◌, ◌∷◌, ◌≡◌, ◌≤◌, add-one, ap, arith, get_or, length, length-take, refl, suc, take as first_of, zero, ℕ}
+use Rattle.std.proofs.Math.Numerals.{add-two}
 use Rattle.meaning.specs.Answers.{Answer, Request}
 use Rattle.sequence.specs.Numbers.{as_request, numbers_of, requests_of}
 use Rattle.sequence.specs.Serving.{cost_all, cost_of}

@@ -1,26 +1,18 @@
 -- Requests one by one: one more at the end, and what follows for the whole run. Assumes nothing.
-use mathlib.Core.Path.{◌∙◌, ◌≡◌, ap, refl}
-use mathlib.Core.Bool.{Bool, false, true}
-use mathlib.Core.List.{List, [], ◌++◌, ◌∷◌}
-use Prim.Native.Nat.{◌%◌, ◌<◌, ℕ}
-use borrow.Author.Tests.{eqb-true}
-use lib.ListN.{length}
-use native.Mathlib.Omega.{arith}
+use Rattle.std.proofs.Common.{Bool, List, [], ◌%◌, ◌++◌, ◌<◌, ◌∙◌, ◌∷◌, ◌≡◌, ap, arith, eqb-true, false, length, refl, true, ℕ}
 use Rattle.arena.specs.Promises.{at_once}
 use Rattle.laws.proofs.Logic.{contra}
 use Rattle.meaning.specs.Answers.{Answer, Request, after, answer, check_up, figures, give_back, start, take, which}
 use Rattle.meaning.specs.Blocks.{Live}
 use Rattle.meaning.specs.Runs.{after_all, answers}
 use Rattle.table.specs.Table.{Stands}
-use Rattle.terms.specs.Reply.{as_answer}
-use Rattle.terms.specs.declared.Reply.{Reply}
 use Rattle.sequence.proofs.Numbers.{numbers_of_append, requests_of_append}
 use Rattle.sequence.proofs.One.{refuses}
 use Rattle.sequence.specs.Numbers.{as_request, begins_with_start, numbers_of, requests_of}
 use Rattle.sequence.specs.Serving.{InTurn, OneByOne, Promised, Serves, all_refused, and_then, no_more}
 
 -- one request more
-one_more : {m : ℕ} {q : Request} {qs : List Request} {t₀ t t' : List ℕ} {r : Reply} {ys : List Answer} → OneByOne m qs t₀ t ys → Promised m q t t' r → OneByOne m (qs ++ (q ∷ [])) t₀ t' (ys ++ (as_answer r ∷ []))
+one_more : {m : ℕ} {q : Request} {qs : List Request} {t₀ t t' : List ℕ} {r : Answer} {ys : List Answer} → OneByOne m qs t₀ t ys → Promised m q t t' r → OneByOne m (qs ++ (q ∷ [])) t₀ t' (ys ++ (r ∷ []))
 one_more (no_more t) p = and_then p (no_more _)
 one_more (and_then x rest) p = and_then x (one_more rest p)
 
@@ -28,9 +20,9 @@ pub in_turn_none : (m : ℕ) (t : List ℕ) → InTurn m [] t t []
 unfolding requests_of numbers_of
 in_turn_none m t = ([], refl, no_more t)
 
-pub in_turn_more : {m : ℕ} {t₀ t t' : List ℕ} {r : Reply} (k n : ℕ) (xs a : List ℕ) → length xs % 2 ≡ 0 → InTurn m xs t₀ t a → Promised m (as_request k n) t t' r → InTurn m (xs ++ (k ∷ n ∷ [])) t₀ t' (a ++ numbers_of (as_answer r ∷ []))
+pub in_turn_more : {m : ℕ} {t₀ t t' : List ℕ} {r : Answer} (k n : ℕ) (xs a : List ℕ) → length xs % 2 ≡ 0 → InTurn m xs t₀ t a → Promised m (as_request k n) t t' r → InTurn m (xs ++ (k ∷ n ∷ [])) t₀ t' (a ++ numbers_of (r ∷ []))
 unfolding requests_of
-in_turn_more {r = r} k n xs a w (ys, e, run) p = (ys ++ (as_answer r ∷ []), rw (numbers_of_append ys, e) refl, rw (requests_of_append xs (k ∷ n ∷ []) w) (one_more run p))
+in_turn_more {r = r} k n xs a w (ys, e, run) p = (ys ++ (r ∷ []), rw (numbers_of_append ys, e) refl, rw (requests_of_append xs (k ∷ n ∷ []) w) (one_more run p))
 
 -- ---- the whole run
 

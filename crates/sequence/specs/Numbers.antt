@@ -1,6 +1,9 @@
 -- Requests and answers as numbers: a request is two, its kind and its argument; an answer is four. Assumes nothing.
-use Rattle.std.specs.Prelude.{Bool, ◌&&◌, false, true, List, [], ◌∷◌, ◌*◌, ◌^◌, suc, zero, ℕ, eqb, leb, ltb, length}
+use Rattle.std.specs.Prelude.{Bool, ◌≡◌, ◌&&◌, false, true, List, [], ◌∷◌, IfOk, Result, is_ok, ◌*◌, ◌^◌, suc, zero, ℕ, eqb, leb, ltb, length}
 use Rattle.meaning.specs.Answers.{Answer, Request, check_up, figures, give_back, start, take, which}
+use Rattle.sequence.specs.declared.request.Request.{Request as Asked}
+use Rattle.sequence.specs.declared.request.Request.TheVariants.{CheckUp, Figures, GiveBack, Start, Take, Which}
+use Rattle.sequence.specs.declared.request.UnknownKind.{UnknownKind}
 
 -- how many kinds of request there are, and how many requests one call serves at most
 abbrev pub kind_count : ℕ
@@ -17,6 +20,19 @@ as_request (suc (suc zero)) x = give_back x
 as_request (suc (suc (suc zero))) x = which x
 as_request (suc (suc (suc (suc zero)))) x = figures
 as_request (suc (suc (suc (suc (suc k))))) x = check_up
+
+-- the request that a request in the code is
+abbrev pub asks : Asked → Request
+asks Start = start
+asks (Take n) = take n
+asks (GiveBack o) = give_back o
+asks (Which o) = which o
+asks Figures = figures
+asks CheckUp = check_up
+
+-- what is read from a kind and an argument: a request where the kind is known, and it is theirs
+abbrev pub Reads : ℕ → ℕ → Result Asked UnknownKind → Type 0
+Reads kind argument r = (is_ok r ≡ ltb kind kind_count) × IfOk r (λ asked. asks asked ≡ as_request kind argument)
 
 -- the requests of a list of numbers
 unfoldable pub requests_of : List ℕ → List Request

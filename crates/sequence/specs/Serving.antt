@@ -1,12 +1,11 @@
 -- What serving any number of requests promises. Assumes nothing.
-use Rattle.std.specs.Prelude.{◌≡◌, true, List, [], ◌++◌, ◌∷◌, ◌*◌, ◌+◌, ◌-◌, ◌<◌, ◌^◌, max, ℕ, drop, length, take as first_of}
+use Rattle.std.specs.Prelude.{◌≡◌, true, List, [], ◌∷◌, ◌*◌, ◌+◌, ◌-◌, ◌<◌, ◌^◌, max, ℕ, take as first_of}
 use Rattle.arena.specs.Promises.{Exact, InOrder, Kept, RefusalAlone, Right, Started, TakenInside, ToldInside, at_once}
 use Rattle.meaning.specs.Answers.{Answer, Request, check_up, figures, give_back, refused, start, take, which}
 use Rattle.meaning.specs.Blocks.{Live, m_most}
 use Rattle.meaning.specs.Runs.{after_all, answers}
 use Rattle.table.specs.Table.{Stands, need}
-use Rattle.terms.specs.Reply.{as_answer}
-use Rattle.terms.specs.declared.Reply.{Reply}
+use Rattle.arena.specs.Numbers.{numbers_in}
 use Rattle.sequence.specs.Numbers.{begins_with_start, numbers_of, requests_of}
 
 -- the accesses of one request at most
@@ -33,7 +32,7 @@ all_refused n [] = []
 all_refused n (r ∷ rs) = refused n ∷ all_refused n rs
 
 -- what one kind of request promises of any table whatever, beside what all do
-abbrev pub Own : ℕ → Request → List ℕ → List ℕ → Reply → Type 0
+abbrev pub Own : ℕ → Request → List ℕ → List ℕ → Answer → Type 0
 Own m start t t' r = Started m t t' r
 Own m (take n) t t' r = TakenInside m n r
 Own m (give_back o) t t' r = Unit {0}
@@ -41,8 +40,8 @@ Own m (which o) t t' r = ToldInside m o r × (t' ≡ t)
 Own m figures t t' r = t' ≡ t
 Own m check_up t t' r = Exact m t r × (t' ≡ t)
 
--- one request, from a table t to t', with a reply r: all that is promised of it
-pub record Promised (m : ℕ) (q : Request) (t t' : List ℕ) (r : Reply) : Type 0 where
+-- one request, from a table t to t', with an answer r: all that is promised of it
+pub record Promised (m : ℕ) (q : Request) (t t' : List ℕ) (r : Answer) : Type 0 where
   -- of any table whatever
   pub in_order : InOrder m q t r
   pub alone : RefusalAlone t t' r
@@ -51,10 +50,14 @@ pub record Promised (m : ℕ) (q : Request) (t t' : List ℕ) (r : Reply) : Type
   -- of a table that stands for a set of live blocks
   pub right : Right m q t t' r
 
+-- the numbers are an answer of which all this holds
+abbrev pub Answered : ℕ → Request → List ℕ → List ℕ → List ℕ → Type 0
+Answered m q t t' numbers = (r : Answer) × (numbers ≡ numbers_in r) × Promised m q t t' r
+
 -- requests one by one, from a table t to t', with their answers: each does all that is promised of it, on the table that the one before it left
 pub data OneByOne (m : ℕ) : List Request → List ℕ → List ℕ → List Answer → Type 0 where
   no_more : (t : List ℕ) → OneByOne m [] t t []
-  and_then : {q : Request} {qs : List Request} {t t₁ t' : List ℕ} {r : Reply} {ys : List Answer} → Promised m q t t₁ r → OneByOne m qs t₁ t' ys → OneByOne m (q ∷ qs) t t' (as_answer r ∷ ys)
+  and_then : {q : Request} {qs : List Request} {t t₁ t' : List ℕ} {r : Answer} {ys : List Answer} → Promised m q t t₁ r → OneByOne m qs t₁ t' ys → OneByOne m (q ∷ qs) t t' (r ∷ ys)
 
 -- the numbers a' are the answers of requests one by one
 abbrev pub InTurn : ℕ → List ℕ → List ℕ → List ℕ → List ℕ → Type 0
@@ -76,9 +79,3 @@ pub record Serves (m : ℕ) (requests : List ℕ) (t t' a' : List ℕ) : Type 0 
 -- two units: the same answers, and the same needed cells
 abbrev pub Alike : ℕ → List ℕ → List ℕ → List ℕ → List ℕ → Type 0
 Alike m t a u b = (a ≡ b) × (first_of (need m) t ≡ first_of (need m) u)
-
--- the four numbers of an answer stand from a place on, and every other number is as it was
-pub record Stored (a a' : List ℕ) (at : ℕ) (x : Answer) : Type 0 where
-  pub long : length a' ≡ length a
-  pub written : first_of (at + 4) a' ≡ first_of at a ++ numbers_of (x ∷ [])
-  pub beyond : drop (at + 4) a' ≡ drop (at + 4) a

@@ -1,62 +1,34 @@
--- `sequence::serve_one` meets its contract: each kind's request keeps what the arena promises of it. Assumes nothing.
-use mathlib.Core.Path.{◌≡◌, ap, refl}
-use Prim.Native.Nat.{ℕ}
-use borrow.Author.Rules.{rules}
-use native.Mathlib.Omega.{arith}
-use Rattle.meaning.specs.Answers.{check_up as ask_check_up, figures as ask_figures, give_back as ask_give_back, start as ask_start, take as ask_take, which as ask_which}
-use Rattle.sequence.proofs.One.{asked_check_up, check_up_right, kept_same, one_large_m, one_of_kind, start_right}
-use Rattle.sequence.specs.Numbers.{as_request}
+-- `sequence::serve_one` meets its contract: each request keeps what the arena promises of it. Assumes nothing.
+use Rattle.std.proofs.Common.{◌∙◌, ap, arith, refl}
+use Rattle.terms.specs.Answers.{as_answer, is_done, tells_verdict}
+use Rattle.arena.specs.Numbers.{numbers_in}
+use Rattle.meaning.specs.Answers.{check_up as ask_check_up, figures as ask_figures, refused, start as ask_start}
+use Rattle.sequence.proofs.One.{check_up_right, cost_most_lem, kept_same, one_large_m, start_right}
+use Rattle.sequence.specs.Numbers.{asks}
 use Rattle.sequence.specs.Serving.{cost_of}
 use Rattle.sequence.proofs.serve_one.Goals as goal
 
-pub returns-then-m-gt-M_MOST : goal.returns-then-m-gt-M_MOST
-returns-then-m-gt-M_MOST c = let q = as_request c.args.kind c.args.argument in
-    record { promised = one_large_m _ (omega arith) c.refuse.ensures q; ends_within = search rules; few = search rules }
+pub returns-then-m-gt-M_MOST-clause-promised : goal.returns-then-m-gt-M_MOST-clause-promised
+returns-then-m-gt-M_MOST-clause-promised c = (refused 6, c.into.ensures.0 ∙ ap (λ r. numbers_in (as_answer is_done r)) c.refused.ensures.refusal, one_large_m _ c.if-m-gt-M_MOST.true (asks c.args.request))
 
-pub returns-then-kind-eq0 : goal.returns-then-kind-eq0
-unfolding as_request cost_of
-returns-then-kind-eq0 c = let k = c.args.kind in
-    let n = c.args.argument in
-    let asked : as_request k n ≡ ask_start = ap (λ (j : ℕ). as_request j n) {x = k} {y = 0} (omega arith) in
-    let done = one_of_kind k n _ asked (omega arith) c.start.ensures.ends_within (record { in_order = c.start.ensures.in_order; alone = c.start.ensures.refusal_changes_nothing; kept = c.start.ensures.stays_inside; own = c.start.ensures.right; right = start_right c.start.ensures.right }) in
-    record { promised = done.0; ends_within = done.1.0; few = done.1.1 }
+pub returns-in-Start-clause-promised : goal.returns-in-Start-clause-promised
+returns-in-Start-clause-promised c =
+    let done = c.start.ensures in
+    (as_answer is_done c.start.result.answer, c.into-in-Start.ensures.0, rw c.in-Start.is (record { in_order = done.in_order; alone = done.refusal_changes_nothing; kept = done.stays_inside; own = done.right; right = start_right done.right }))
 
-pub returns-then-kind-eq1 : goal.returns-then-kind-eq1
-unfolding as_request cost_of
-returns-then-kind-eq1 c = let k = c.args.kind in
-    let n = c.args.argument in
-    let asked : as_request k n ≡ ask_take n = ap (λ (j : ℕ). as_request j n) {x = k} {y = 1} (omega arith) in
-    let done = one_of_kind k n _ asked (omega arith) c.take.ensures.ends_within (record { in_order = c.take.ensures.in_order; alone = c.take.ensures.refusal_changes_nothing; kept = c.take.ensures.stays_inside.0; own = c.take.ensures.stays_inside.1; right = c.take.ensures.right }) in
-    record { promised = done.0; ends_within = done.1.0; few = done.1.1 }
+pub returns-in-Start-clause-few : goal.returns-in-Start-clause-few
+unfolding cost_of
+returns-in-Start-clause-few c = omega (arith, cost_most_lem {m = c.args.m} ask_start (omega arith))
 
-pub returns-then-kind-eq2 : goal.returns-then-kind-eq2
-unfolding as_request cost_of
-returns-then-kind-eq2 c = let k = c.args.kind in
-    let n = c.args.argument in
-    let asked : as_request k n ≡ ask_give_back n = ap (λ (j : ℕ). as_request j n) {x = k} {y = 2} (omega arith) in
-    let done = one_of_kind k n _ asked (omega arith) c.give_back.ensures.ends_within (record { in_order = c.give_back.ensures.in_order; alone = c.give_back.ensures.refusal_changes_nothing; kept = c.give_back.ensures.stays_inside; own = record {}; right = c.give_back.ensures.right }) in
-    record { promised = done.0; ends_within = done.1.0; few = done.1.1 }
+pub returns-in-Figures-clause-few : goal.returns-in-Figures-clause-few
+unfolding cost_of
+returns-in-Figures-clause-few c = omega (arith, cost_most_lem {m = c.args.m} ask_figures (omega arith))
 
-pub returns-then-kind-eq3 : goal.returns-then-kind-eq3
-unfolding as_request cost_of
-returns-then-kind-eq3 c = let k = c.args.kind in
-    let n = c.args.argument in
-    let asked : as_request k n ≡ ask_which n = ap (λ (j : ℕ). as_request j n) {x = k} {y = 3} (omega arith) in
-    let done = one_of_kind k n _ asked (omega arith) c.which.ensures.ends_within (record { in_order = c.which.ensures.in_order; alone = c.which.ensures.refusal_alone; kept = kept_same _ _; own = (c.which.ensures.stays_inside, refl); right = c.which.ensures.right }) in
-    record { promised = done.0; ends_within = done.1.0; few = done.1.1 }
+pub returns-in-CheckUp-clause-promised : goal.returns-in-CheckUp-clause-promised
+returns-in-CheckUp-clause-promised c =
+    let done = c.check_up.ensures in
+    (as_answer tells_verdict c.check_up.result.answer, c.into-in-CheckUp.ensures.0, rw c.in-CheckUp.is (record { in_order = done.in_order; alone = done.refusal_alone; kept = kept_same _ _; own = (done.exact, refl); right = check_up_right done.exact }))
 
-pub returns-then-kind-eq4 : goal.returns-then-kind-eq4
-unfolding as_request cost_of
-returns-then-kind-eq4 c = let k = c.args.kind in
-    let n = c.args.argument in
-    let asked : as_request k n ≡ ask_figures = ap (λ (j : ℕ). as_request j n) {x = k} {y = 4} (omega arith) in
-    let done = one_of_kind k n _ asked (omega arith) c.figures.ensures.ends_within (record { in_order = c.figures.ensures.in_order; alone = c.figures.ensures.refusal_alone; kept = kept_same _ _; own = refl; right = c.figures.ensures.right }) in
-    record { promised = done.0; ends_within = done.1.0; few = done.1.1 }
-
-pub returns : goal.returns
-unfolding as_request cost_of
-returns c = let k = c.args.kind in
-    let n = c.args.argument in
-    let asked : as_request k n ≡ ask_check_up = asked_check_up k n (omega arith) in
-    let done = one_of_kind k n _ asked (omega arith) c.check_up.ensures.ends_within (record { in_order = c.check_up.ensures.in_order; alone = c.check_up.ensures.refusal_alone; kept = kept_same _ _; own = (c.check_up.ensures.exact, refl); right = check_up_right c.check_up.ensures.exact }) in
-    record { promised = done.0; ends_within = done.1.0; few = done.1.1 }
+pub returns-in-CheckUp-clause-few : goal.returns-in-CheckUp-clause-few
+unfolding cost_of
+returns-in-CheckUp-clause-few c = omega (arith, cost_most_lem {m = c.args.m} ask_check_up (omega arith))
