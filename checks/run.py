@@ -164,8 +164,8 @@ THROUGH_A_BOUND = {*(f"{BOOK}::{name}" for name in ("get", "down", "locate")), f
 # The lists of requests and of answers are slices of u64 too: the functions of `sequence` that have such lists, and the names of the parameters that
 # are. The table is none of these parameters. Where a function has no other slices of u64, it may do with them what it likes.
 LISTS = {
-    "number_at": {"list"},
-    "store_reply": {"answers"},
+    "request_at": {"requests"},
+    "store": {"answers"},
     "all_known": {"requests"},
     "can_serve": {"requests"},
     "serve": {"requests", "answers"},

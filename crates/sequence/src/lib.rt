@@ -1,14 +1,14 @@
 // Any number of requests, one after the other, and two units side by side.
 #![tactic(auto)]
 
-ghost use Rattle.std.specs.Prelude.{◌≡◌, ◌&&◌, false, true, MatchOption, ◌≤◌, is_some, length, ⊤};
+ghost use Rattle.std.specs.Prelude.{◌≡◌, ◌&&◌, ◌++◌, ◌*◌, ◌+◌, ◌<◌, false, true, MatchOption, ◌≤◌, get_or, is_some, length, take as take_front, ⊤};
 ghost use Rattle.meaning.specs.Answers.{start as ask_start};
 ghost use Rattle.meaning.specs.Blocks.{Live};
 ghost use Rattle.table.specs.Table.{Stands};
 ghost use Rattle.terms.specs.Answers.{as_answer};
 ghost use Rattle.arena.specs.Numbers.{numbers_in};
 ghost use Rattle.arena.specs.Promises.{Kept, at_once};
-ghost use Rattle.sequence.specs.Numbers.{asks, begins_with_start, known, requests_of, servable};
+ghost use Rattle.sequence.specs.Numbers.{as_request, asks, begins_with_start, known, requests_of, servable};
 ghost use Rattle.sequence.specs.Serving.{Alike, Answered, InTurn, Serves, cost_all, cost_most, cost_of};
 
 mod request;
@@ -75,6 +75,25 @@ fn serve_one(t: &mut [u64], m: u64, request: Request) -> Told
     }
 }
 
+// The request at a place among known ones.
+fn request_at(requests: &[u64], i: usize) -> Request
+    requires kinds { known requests.now ≡ true }
+    requires within { 2 * i + 1 < length requests.now }
+    ensures { asks result ≡ as_request (get_or requests.now (2 * i) 0) (get_or requests.now (2 * i + 1) 0) }
+{
+    let (pairs, _) = requests.as_chunks::<2>();
+    Request::try_from(pairs[i]).unwrap()
+}
+
+// The numbers of an answer, stored at its place.
+fn store(answers: &mut [u64], i: usize, numbers: [u64; 4])
+    requires { 4 * i + 4 ≤ length answers.old }
+    ensures long { length answers.new ≡ length answers.old }
+    ensures written { take_front (4 * i + 4) answers.new ≡ take_front (4 * i) answers.old ++ numbers }
+{
+    answers[4 * i..4 * i + 4].copy_from_slice(&numbers);
+}
+
 // Serves requests, two numbers each, into answers, four numbers each, and says how many accesses to the table that took. Where a kind is not known or
 // the lists do not fit each other nothing is served and nothing changes.
 pub fn serve(t: &mut [u64], m: u64, requests: &[u64], answers: &mut [u64]) -> Option<u64>
@@ -88,11 +107,10 @@ pub fn serve(t: &mut [u64], m: u64, requests: &[u64], answers: &mut [u64]) -> Op
     if !can_serve(requests, answers.len()) {
         return None;
     }
-    let (pairs, _) = requests.as_chunks::<2>();
     let mut spent = 0;
-    for (i, pair) in pairs.iter().enumerate() {
-        let told = serve_one(t, m, Request::try_from(*pair).unwrap());
-        answers[4 * i..4 * i + 4].copy_from_slice(&told.numbers);
+    for i in 0..requests.len() / 2 {
+        let told = serve_one(t, m, request_at(requests, i));
+        store(answers, i, told.numbers);
         spent += told.spent;
     }
     Some(spent)

@@ -1,8 +1,5 @@
 -- Where the blocks at the code's offsets end. Assumes nothing.
-use mathlib.Core.Path.{◌≡◌, ap}
-use Prim.Native.Nat.{◌*◌, ◌+◌, ◌-◌, ◌<◌, ◌^◌, ◌≤◌, ℕ}
-use native.Mathlib.Nat.{mul_left_comm}
-use native.Mathlib.Omega.{arith}
+use Rattle.std.proofs.Common.{◌*◌, ◌+◌, ◌-◌, ◌<◌, ◌^◌, ◌≡◌, ◌≤◌, ap, arith, mul_left_comm, ℕ}
 use Rattle.laws.proofs.Apart.{block_inside}
 use Rattle.laws.proofs.Sizes.{slot_in}
 use Rattle.meaning.specs.Blocks.{arena, is_large, large, page_bytes, slots, small}

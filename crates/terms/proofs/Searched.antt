@@ -1,13 +1,7 @@
 -- How a table of the ten sizes, and a loop that looks for the least size, are shown right. Assumes nothing.
-use mathlib.Core.Path.{◌≡◌}
-use mathlib.Core.Bool.{not}
-use mathlib.Core.Option.{none, some}
-use mathlib.Core.List.{List}
-use Prim.Native.Nat.{◌*◌, ◌<◌, ◌^◌, ◌≤◌, suc, ℕ}
-use borrow.Author.Tests.{eqb-true, le-leb, lt-leb, not-false}
-use lib.Dec.{eqb, leb}
-use lib.ListN.{get_or}
-use native.Mathlib.Omega.{arith}
+use Rattle.std.proofs.Common.{List, ◌*◌, ◌<◌, ◌^◌, ◌≡◌, ◌≤◌, arith, eqb, eqb-true, get_or, le-leb, leb, not, suc, ℕ}
+use Rattle.std.proofs.Math.Option.{none, some}
+use Rattle.std.proofs.lemmas.Bool.{lt-leb, not-false}
 use Rattle.laws.proofs.Searches.{lowest_is, lowest_none}
 use Rattle.meaning.specs.Answers.{k_for, size_for}
 use Rattle.meaning.specs.Blocks.{page_bytes, size_count, small}
