@@ -185,7 +185,7 @@ def source_of(name):
     crate, *modules = name.split("::")[:-1]
     folder = ROOT / "crates" / crate / "src"
     files = [folder / "/".join(modules[:count]) for count in range(len(modules), 0, -1)]
-    return next((file for file in (one.with_suffix(".rt") for one in files) if file.is_file()), folder / "lib.rt").read_text()
+    return next((file for file in (one.with_suffix(".rt") for one in files) if file.is_file()), next(folder / root for root in ("lib.rt", "main.rt") if (folder / root).is_file())).read_text()
 
 
 def lists():

@@ -37,41 +37,30 @@ fn can_serve(requests: &[u64], places: usize) -> bool
 }
 
 // What is answered, as numbers, and the accesses to the table.
-#[derive(Clone, Copy)]
-struct Told {
-    numbers: [u64; 4],
-    spent: u64,
-}
-
-// What a request hands out, as numbers.
-impl<T: Tells> From<Counted<T>> for Told {
-    ghost from_gives = { λ counted told. (told.numbers ≡ numbers_in (as_answer T.told counted.answer)) × (told.spent ≡ counted.spent) };
-
-    fn from(counted: Counted<T>) -> Told {
-        Told {
-            numbers: counted.numbers(),
-            spent: counted.spent,
-        }
-    }
+fn told<T: Tells>(counted: Counted<T>) -> ([u64; 4], u64)
+    ensures numbers { result.0 ≡ numbers_in (as_answer T.told counted.answer) }
+    ensures accesses { result.1 ≡ counted.spent }
+{
+    (counted.numbers(), counted.spent)
 }
 
 // One request. An m that is too large is refused here, so that the count stays small.
 #[tactic(auto, unfolding(crate::specs::Serving::cost_of))]
-fn serve_one(t: &mut [u64], m: u64, request: Request) -> Told
-    ensures promised { Answered m (asks request) t.old t.new result.numbers }
-    ensures ends_within { result.spent ≤ cost_of m (asks request) }
-    ensures few { result.spent ≤ cost_most }
+fn serve_one(t: &mut [u64], m: u64, request: Request) -> ([u64; 4], u64)
+    ensures promised { Answered m (asks request) t.old t.new result.0 }
+    ensures ends_within { result.1 ≤ cost_of m (asks request) }
+    ensures few { result.1 ≤ cost_most }
 {
     if M_MOST < m {
-        return Counted::<()>::refused(Refusal::LargeArena).into();
+        return (Counted::<()>::refused(Refusal::LargeArena).numbers(), 0);
     }
     match request {
-        Request::Start => start(t, m).into(),
-        Request::Take(n) => take(t, m, n).into(),
-        Request::GiveBack(o) => give_back(t, m, o).into(),
-        Request::Which(o) => which(t, m, o).into(),
-        Request::Figures => figures(t, m).into(),
-        Request::CheckUp => check_up(t, m).into(),
+        Request::Start => told(start(t, m)),
+        Request::Take(n) => told(take(t, m, n)),
+        Request::GiveBack(o) => told(give_back(t, m, o)),
+        Request::Which(o) => told(which(t, m, o)),
+        Request::Figures => told(figures(t, m)),
+        Request::CheckUp => told(check_up(t, m)),
     }
 }
 
@@ -109,9 +98,9 @@ pub fn serve(t: &mut [u64], m: u64, requests: &[u64], answers: &mut [u64]) -> Op
     }
     let mut spent = 0;
     for i in 0..requests.len() / 2 {
-        let told = serve_one(t, m, request_at(requests, i));
-        store(answers, i, told.numbers);
-        spent += told.spent;
+        let (numbers, accesses) = serve_one(t, m, request_at(requests, i));
+        store(answers, i, numbers);
+        spent += accesses;
     }
     Some(spent)
 }

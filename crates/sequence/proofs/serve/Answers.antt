@@ -8,7 +8,7 @@ loop-i-init c = going_start _ _ _ _ (servable_parts _ _ (sym c.can_serve.ensures
 
 pub loop-i-preserved : goal.loop-i-preserved
 loop-i-preserved c =
-    let one = c.serve_one-told.ensures in
+    let one = c.serve_one-accesses.ensures in
     going_more _ c.request_at.ensures (omega arith) c.loop-i.invariant one.promised one.ends_within one.few c.store.ensures.long c.store.ensures.written
 
 pub returns-clause-ends_within : goal.returns-clause-ends_within

@@ -9,12 +9,12 @@ use Rattle.sequence.specs.Serving.{cost_of}
 use Rattle.sequence.proofs.serve_one.Goals as goal
 
 pub returns-then-m-gt-M_MOST-clause-promised : goal.returns-then-m-gt-M_MOST-clause-promised
-returns-then-m-gt-M_MOST-clause-promised c = (refused 6, c.into.ensures.0 ∙ ap (λ r. numbers_in (as_answer is_done r)) c.refused.ensures.refusal, one_large_m _ c.if-m-gt-M_MOST.true (asks c.args.request))
+returns-then-m-gt-M_MOST-clause-promised c = (refused 6, c.numbers.ensures ∙ ap (λ r. numbers_in (as_answer is_done r)) c.refused.ensures.refusal, one_large_m _ c.if-m-gt-M_MOST.true (asks c.args.request))
 
 pub returns-in-Start-clause-promised : goal.returns-in-Start-clause-promised
 returns-in-Start-clause-promised c =
     let done = c.start.ensures in
-    (as_answer is_done c.start.result.answer, c.into-in-Start.ensures.0, rw c.in-Start.is (record { in_order = done.in_order; alone = done.refusal_changes_nothing; kept = done.stays_inside; own = done.right; right = start_right done.right }))
+    (as_answer is_done c.start.result.answer, c.told.ensures.numbers, rw c.in-Start.is (record { in_order = done.in_order; alone = done.refusal_changes_nothing; kept = done.stays_inside; own = done.right; right = start_right done.right }))
 
 pub returns-in-Start-clause-few : goal.returns-in-Start-clause-few
 unfolding cost_of
@@ -27,7 +27,7 @@ returns-in-Figures-clause-few c = omega (arith, cost_most_lem {m = c.args.m} ask
 pub returns-in-CheckUp-clause-promised : goal.returns-in-CheckUp-clause-promised
 returns-in-CheckUp-clause-promised c =
     let done = c.check_up.ensures in
-    (as_answer tells_verdict c.check_up.result.answer, c.into-in-CheckUp.ensures.0, rw c.in-CheckUp.is (record { in_order = done.in_order; alone = done.refusal_alone; kept = kept_same _ _; own = (done.exact, refl); right = check_up_right done.exact }))
+    (as_answer tells_verdict c.check_up.result.answer, c.told-in-CheckUp.ensures.numbers, rw c.in-CheckUp.is (record { in_order = done.in_order; alone = done.refusal_alone; kept = kept_same _ _; own = (done.exact, refl); right = check_up_right done.exact }))
 
 pub returns-in-CheckUp-clause-few : goal.returns-in-CheckUp-clause-few
 unfolding cost_of
