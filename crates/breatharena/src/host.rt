@@ -39,7 +39,7 @@ fn cells_lent(m: u64, is_short: bool) -> usize
 
 impl Host {
     // Before the first line: m is 0.
-    pub fn new() -> Self {
+    pub(crate) fn new() -> Self {
         Self {
             table: [GARBAGE; TABLE_CELLS],
             m: 0,
@@ -51,7 +51,7 @@ impl Host {
     }
 
     // Plays a line: what it answers, if anything.
-    pub fn play(&mut self, line: Line) -> Result<Option<Answer>, Expected> {
+    pub(crate) fn play(&mut self, line: Line) -> Result<Option<Answer>, Expected> {
         let answer = match line {
             Line::Blank => None,
             Line::Arena(m) => {

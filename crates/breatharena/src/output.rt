@@ -12,7 +12,7 @@ const OUTPUT_BYTES: usize = 65536;
 pub struct Stopped;
 
 // Says on standard error what failed, and why. Where that fails too, there is nowhere left to say so.
-pub fn fail(rt: &impl Eprint, what: &str, why: io::Error) {
+pub(crate) fn fail(rt: &impl Eprint, what: &str, why: io::Error) {
     let _ = eprintln!(rt; "{what}: {why}");
 }
 
@@ -24,7 +24,7 @@ pub struct Output<'a, R: Print + Eprint + Drop> {
 }
 
 impl<'a, R: Print + Eprint + Drop> Output<'a, R> {
-    pub fn new(rt: &'a R) -> Self {
+    pub(crate) fn new(rt: &'a R) -> Self {
         Self {
             rt,
             waiting: Buffer::new(),
@@ -41,7 +41,7 @@ impl<'a, R: Print + Eprint + Drop> Output<'a, R> {
     }
 
     // Says on standard error what failed, and why. Nothing more is to be played.
-    pub fn fail(&self, what: &str, why: io::Error) -> Stopped {
+    pub(crate) fn fail(&self, what: &str, why: io::Error) -> Stopped {
         fail(self.rt, what, why);
         Stopped
     }
@@ -56,7 +56,7 @@ impl<'a, R: Print + Eprint + Drop> Output<'a, R> {
     }
 
     // Puts some bytes behind those that wait.
-    pub fn put(&mut self, bytes: &[u8]) {
+    pub(crate) fn put(&mut self, bytes: &[u8]) {
         for b in bytes {
             self.make_room();
             self.waiting.push(*b);

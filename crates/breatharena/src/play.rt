@@ -26,7 +26,7 @@ pub struct Player<'a, R: Print + Eprint + Drop> {
 
 impl<'a, R: Print + Eprint + Drop> Player<'a, R> {
     // Before the first line, over a table that holds garbage.
-    pub fn new(rt: &'a R) -> Self {
+    pub(crate) fn new(rt: &'a R) -> Self {
         Self {
             host: Host::new(),
             output: Output::new(rt),
@@ -37,7 +37,7 @@ impl<'a, R: Print + Eprint + Drop> Player<'a, R> {
 
     // Reads once and plays the lines that end in what came, or, where the input ended, what is left of a last line. The
     // name of the input is for a message.
-    pub fn play_some(&mut self, input: &mut impl Read, name: &str) -> Result<(), Stopped> {
+    pub(crate) fn play_some(&mut self, input: &mut impl Read, name: &str) -> Result<(), Stopped> {
         let mut piece = [0; INPUT_BYTES];
         let played = match input.read(&mut piece) {
             Err(why) => return Err(self.output.fail(name, why)),
