@@ -1,2 +1,2 @@
--- What the C functions hand back, as a reply.
+-- What the C functions hand back, as an answer.
 pub mod Said

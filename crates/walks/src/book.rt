@@ -30,7 +30,7 @@ impl<'a> Cells for &'a mut [u64] {
     }
 }
 
-// The cells that an arena needs, and the accesses to them. Nothing else reaches a cell or the count.
+// The cells that an arena needs, and the accesses to them. Above this crate its methods alone reach a cell or the count.
 #[derive(Drop)]
 pub struct Book<C: Cells> {
     cells: C,

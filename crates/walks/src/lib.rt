@@ -91,7 +91,7 @@ fn sibling(v: usize) -> usize
     v + 1 - 2 * (v % 2)
 }
 
-// From the node `at` of a height, whose cell has the value x, to the root: each node above it becomes the join of its halves.
+// From the node `at` of a height, whose cell is `value`, to the root: each node above it becomes the join of its halves.
 pub fn up(t: &mut [u64], arena: Arena, at: usize, height: u64, value: u64, spent: &mut u64)
     requires height_in_range { height ≤ arena.m }
     requires at_below { at < 2 * 2 ^ arena.m }

@@ -1,5 +1,5 @@
 -- `arena::give_back` meets its contract: by the laws of what is refused at once, and of the part of the table. Assumes nothing.
-use Rattle.std.proofs.Common.{ap, arith, ℕ, ◌^◌, ◌∙◌}
+use Rattle.std.proofs.Common.{arith, ◌∙◌}
 use Rattle.std.proofs.lemmas.Grind.{common_steps}
 use Rattle.meaning.specs.Answers.{give_back}
 use Rattle.terms.specs.Answers.{as_answer, is_done}
@@ -19,7 +19,6 @@ returns-in-Ok c =
     let named = c.give_block-answer.ensures.same_book.0 in
     let l = lent c.in-Ok.ensures made.same_arena c.cells.ensures (made.same_cells ∙ parts.front) in
     let m = l.same in
-    let size = ap (λ (x : ℕ). 2 ^ x) l.same in
     let part = give_served _ l c.in-Ok.ensures.2 done in
     let w = at_exit (λ y. Promised c.args.m (give_back c.args.o) c.args.t.now y (as_answer is_done c.give_block-answer.result)) c.cells.result c.args.t.now (grind (arith, common_steps)) parts.back part in
     record { in_order = w.in_order; refusal_changes_nothing = w.alone; stays_inside = w.kept; ends_within = omega (arith, done.cost); right = w.right }

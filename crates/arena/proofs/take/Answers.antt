@@ -1,5 +1,5 @@
 -- `arena::take` meets its contract: by the laws of what is refused at once, and of the part of the table. Assumes nothing.
-use Rattle.std.proofs.Common.{ap, arith, refl, ℕ, ◌^◌, ◌∙◌}
+use Rattle.std.proofs.Common.{arith, refl, ◌∙◌}
 use Rattle.std.proofs.lemmas.Grind.{common_steps}
 use Rattle.meaning.specs.Answers.{take}
 use Rattle.terms.specs.Answers.{as_answer, tells_offset}
@@ -19,7 +19,6 @@ returns-in-Ok c =
     let named = c.take_block-answer.ensures.same_book.0 in
     let l = lent c.in-Ok.ensures made.same_arena c.cells.ensures (made.same_cells ∙ parts.front) in
     let m = l.same in
-    let size = ap (λ (x : ℕ). 2 ^ x) l.same in
     let part = take_served _ l c.in-Ok.ensures.2 done in
     let w = at_exit (λ y. Promised c.args.m (take c.args.n) c.args.t.now y (as_answer tells_offset c.take_block-answer.result)) c.cells.result c.args.t.now (grind (arith, common_steps)) parts.back part.0 in
     record { in_order = w.in_order; refusal_changes_nothing = w.alone; stays_inside = (w.kept, part.1); ends_within = omega (arith, done.cost); right = w.right }

@@ -1,5 +1,5 @@
 -- `arena::which` meets its contract: by the laws of what is refused at once, and of the part of the table. Assumes nothing.
-use Rattle.std.proofs.Common.{ap, arith, refl, ℕ, ◌^◌}
+use Rattle.std.proofs.Common.{ap, arith, refl}
 use Rattle.meaning.specs.Answers.{which}
 use Rattle.arena.proofs.Reading.{which_served}
 use Rattle.arena.proofs.Refused.{not_admitted, offset_admitted}
@@ -15,7 +15,6 @@ returns-in-Ok c =
     let done = c.tell_block-answer.ensures.told in
     let l = lent c.in-Ok.ensures made.same_arena c.cells.ensures (ap (λ x. x.now) made.same_cells) in
     let m = l.same in
-    let size = ap (λ (x : ℕ). 2 ^ x) l.same in
     let w = which_served _ l c.in-Ok.ensures.2 done in
     record { in_order = w.0.in_order; refusal_alone = w.0.alone; stays_inside = w.1; ends_within = omega (arith, done.cost); right = w.0.right }
 
