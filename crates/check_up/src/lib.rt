@@ -15,7 +15,10 @@ use walks::{Shown, map_of};
 fn leaf_sound(cell: u64, bits: u64) -> bool
     ensures { result ≡ leaf_sound cell bits }
 {
-    if cell == vacant_cell(0) || cell == whole_cell() {
+    if cell == vacant_cell(0) {
+        return bits == 0;
+    }
+    if cell == whole_cell() {
         return bits == 0;
     }
     match tag_of(cell) {
