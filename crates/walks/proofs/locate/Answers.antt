@@ -1,4 +1,4 @@
-use Rattle.std.proofs.Common.{arith, ℕ, ◌/◌, ◌^◌, ◌≡◌, ap, get_or, subst, sym, ◌∙◌}
+use Rattle.std.proofs.Common.{List, arith, ◌/◌, ◌^◌, ◌≡◌, ap, get_or, subst, sym, ◌∙◌, ℕ}
 use Rattle.std.proofs.Math.Nat.{div-le_self}
 use Rattle.cells.specs.Cell.{tag_in}
 use Rattle.cells.specs.Tags.{Says}
@@ -10,6 +10,10 @@ pub get-cell-requires-clause-inside : goal.get-cell-requires-clause-inside
 get-cell-requires-clause-inside c =
     let below = div-le_self c.args.leaf (2 ^ c.loop-height.height) in
     omega (arith, above_div c.loop-height.height c.args.leaf)
+
+-- what was read is the tag of the node's cell
+tag_read : (t : List ℕ) (v cell tag : ℕ) → tag ≡ tag_in cell → cell ≡ get_or t v 0 → tag ≡ tag_in (get_or t v 0)
+tag_read t v cell tag e f = e ∙ ap tag_in f
 
 pub returns-in-Some : goal.returns-in-Some
 returns-in-Some c =
@@ -30,5 +34,5 @@ loop-height-preserved c =
     record {
       node = ap (λ (v : ℕ). v / 2) c.loop-height.invariant.node ∙ sym (above_next h c.args.leaf);
       counted = omega arith;
-      way = sym (located_turn _ _ c.loop-height.v h (omega arith) (ap tag_in (sym read) ∙ c.in_default.ensures)) ∙ c.loop-height.invariant.way;
+      way = sym (located_turn _ _ c.loop-height.v h (omega arith) (sym (tag_read c.args.t.now c.loop-height.v _ _ (sym c.in_default.ensures) read))) ∙ c.loop-height.invariant.way;
     }
