@@ -162,7 +162,7 @@ REQUESTS = {f"arena::{name}" for name in ("start", "take", "give_back", "which",
 REPLY = "arena::told::Counted"
 THROUGH_A_BOUND = {*(f"{BOOK}::{name}" for name in ("get", "down", "locate")), f"{REPLY}::numbers", f"{REPLY}Clone::clone"}
 # The lists of requests and of answers are slices of u64 too: the functions of `sequence` that have such lists, and the names of the parameters that
-# are. The table is none of these parameters. Where a function has no other slices of u64, it may do with them what it likes.
+# are. The table is none of these parameters. Where nothing else that comes in may have a slice of u64, a function may do with them what it likes.
 LISTS = {
     "request_at": {"requests"},
     "store": {"answers"},
@@ -216,7 +216,7 @@ def access_check_catches():
     """The check of accesses catches each function of its example that reaches elements or hides a slice, and no other."""
     bodies = code_of(accesses.SAMPLE)
     gets = {name for name in bodies if name.startswith("sample::gets")}
-    shown = of_sample("RefSliceU64Cells::shown", "RefMutSliceU64Cells::shown")
+    shown = of_sample("RefSliceU64Cells::shown", "RefMutSliceU64Cells::shown", "RefSliceU64Rest::rest", "RefMutSliceU64Rest::rest")
     return differences(accesses.faults(bodies, gets, of_sample("Book::new"), shown, of_sample("Book"), accesses.SAMPLE_LISTS, set()), accesses.FAULTS)
 
 
