@@ -1,7 +1,7 @@
 // Any number of requests, one after the other, and two units side by side.
 #![tactic(auto)]
 
-ghost use Rattle.std.specs.Prelude.{◌≡◌, ◌&&◌, ◌++◌, ◌*◌, ◌+◌, ◌<◌, false, true, ◌≤◌, get_or, is_ok, length, take as take_front};
+ghost use Rattle.std.specs.Prelude.{◌≡◌, ◌&&◌, ◌++◌, ◌*◌, ◌+◌, ◌<◌, false, true, ◌≤◌, drop, get_or, is_ok, length, take as take_front};
 ghost use Rattle.meaning.specs.Answers.{start as ask_start};
 ghost use Rattle.meaning.specs.Blocks.{Live};
 ghost use Rattle.table.specs.Table.{Stands};
@@ -79,6 +79,7 @@ fn store(answers: &mut [u64], i: usize, numbers: [u64; 4])
     requires { 4 * i + 4 ≤ length answers.old }
     ensures long { length answers.new ≡ length answers.old }
     ensures written { take_front (4 * i + 4) answers.new ≡ take_front (4 * i) answers.old ++ numbers }
+    ensures beyond { drop (4 * i + 4) answers.new ≡ drop (4 * i + 4) answers.old }
 {
     answers[4 * i..4 * i + 4].copy_from_slice(&numbers);
 }
