@@ -3,10 +3,12 @@
 Works on the code as it is proved and compiled (`mir.py`). There an element of a slice is reached by `offset` from the
 slice's pointer, its field 0, and then by a `deref`. A part of a slice is made by `offset` too, and is not dereferenced. So that no element is
 reached in another way, a slice of u64 stands nowhere but in a local or a parameter of its own, and as the cells of a book; one that stands by itself came in
-or is a part of one that did, and is lent to functions that take such a slice, to be split in two, and for the cells of a book. Slices of a constant, which is no table, are
-free where they are lent to nobody in the program.
+or is a part of one that did, and is lent to functions that take such a slice, to be split in two, and for the cells of a book. A slice that is split came in, and
+its parts become the cells of a book and are lent to nobody else. The functions that show the cells of a book are lent them behind a reference, and do nothing
+but hand out that very slice, whole. Where no table can come in, the lists of requests and answers are free, and slices of a constant if
+they are lent to nobody in the program.
 """
-from mir import assigns, calls, given_types, items, kinds, kinds_along, local_of, named, parameters, place_of, strayed, walk
+from mir import assigns, calls, given_types, items, kind_of, kinds, kinds_along, local_of, named, parameters, place_of, put_in, strayed, walk
 
 # an example for the check of this check; a function whose name starts with `gets` is one that may make an access
 SAMPLE = """
@@ -174,6 +176,10 @@ pub fn gets_again_and_again(t: &[u64], at: usize) -> u64 {
     sum
 }
 
+pub fn gets_beside(t: &[u64], at: usize, other: &&[u64]) -> u64 {
+    t[at]
+}
+
 // ---- lists of requests or answers
 
 fn number_at(list: &[u64], at: usize) -> u64 {
@@ -199,6 +205,18 @@ pub fn asks_the_wrong_way_round(t: &[u64], list: &[u64]) -> u64 {
 pub fn asks_what_was_assigned<'a>(t: &'a [u64], mut list: &'a [u64]) -> u64 {
     list = t;
     number_at(list, 0)
+}
+
+fn number_behind(list: &[u64], t: &&[u64]) -> u64 {
+    list[0] / 2 + t[0] / 2
+}
+
+fn number_of_any<C: Cells>(list: &[u64], cells: &C) -> u64 {
+    list[0] / 2 + cells.shown()[0] / 2
+}
+
+fn number_of_a_book(list: &[u64], book: &mut Book<&mut [u64]>) {
+    book.cells[0] = list[0];
 }
 
 fn same(t: &[u64]) -> &[u64] {
@@ -290,6 +308,31 @@ pub fn splits(t: &mut [u64]) -> usize {
     count(first) / 2 + count(rest) / 2
 }
 
+pub fn splits_for_a_book(t: &mut [u64]) -> u64 {
+    let (first, _) = t.split_at_mut(3);
+    let mut book = Book::new(first);
+    book.put(0);
+    book.get(1)
+}
+
+pub fn splits_and_lends_the_rest(t: &mut [u64]) -> usize {
+    let (first, rest) = t.split_at_mut(3);
+    let mut book = Book::new(first);
+    book.put(0);
+    count(rest)
+}
+
+pub fn splits_again(t: &mut [u64]) -> u64 {
+    let (_, rest) = t.split_at_mut(3);
+    let (first, _) = rest.split_at_mut(3);
+    Book::new(first).get(1)
+}
+
+pub fn splits_and_hands_one_out(t: &mut [u64]) -> &mut [u64] {
+    let (first, _) = t.split_at_mut(3);
+    first
+}
+
 pub fn splits_and_writes(t: &mut [u64]) {
     t.split_at_mut(3).1[0] = 7;
 }
@@ -321,6 +364,22 @@ impl<'a> Cells for &'a mut [u64] {
     }
 }
 
+pub trait Rest {
+    fn rest(&self) -> &[u64];
+}
+
+impl<'a> Rest for &'a [u64] {
+    fn rest(&self) -> &[u64] {
+        &self[1..]
+    }
+}
+
+impl<'a> Rest for &'a mut [u64] {
+    fn rest(&self) -> &[u64] {
+        same(self)
+    }
+}
+
 #[derive(Drop)]
 pub struct Book<C: Cells> {
     cells: C,
@@ -348,6 +407,12 @@ impl<'a> Book<&'a mut [u64]> {
 
     pub fn set(&mut self, at: usize, v: u64) {
         self.cells[at] = v;
+    }
+
+    pub fn find_and_set(&mut self, at: usize, v: u64) {
+        if SIZES.iter().any(|size| *size == v) {
+            self.cells[at] = v;
+        }
     }
 }
 
@@ -392,7 +457,8 @@ pub fn finds_a_size_and_reads(t: &[u64]) -> bool {
 """
 # the functions of the example that have lists of requests or answers, each with the numbers of its parameters that are
 SAMPLE_LISTS = {f"sample::{name}": {"2"} for name in ("asks", "asks_twice", "asks_the_table", "asks_the_wrong_way_round", "asks_what_was_assigned",
-                                                      "asks_what_was_called", "asks_and_reads")} | {"sample::number_at": {"1"}}
+                                                      "asks_what_was_called", "asks_and_reads")}
+SAMPLE_LISTS |= {f"sample::{name}": {"1"} for name in ("number_at", "number_behind", "number_of_any", "number_of_a_book")}
 # the functions of the example that are wrong, each with what is to be said of it
 FAULTS = {
     "reads": "reaches 1 elements",
@@ -421,6 +487,10 @@ FAULTS = {
     "asks_what_was_assigned": "lends sample::number_at something else than a list",
     "asks_what_was_called": "lends sample::number_at something else than a list",
     "asks_and_reads": "reaches 1 elements",
+    "gets_beside": "has a slice of u64 below the top of a type",
+    "number_behind": "has a slice of u64 below the top of a type",
+    "number_of_any": "reaches 2 elements",
+    "number_of_a_book": "reaches 2 elements",
     "reads_in_a_loop": "reaches 1 elements",
     "writes_in_a_loop": "reaches 1 elements",
     "reads_by_a_pattern": "reaches 1 elements",
@@ -436,11 +506,18 @@ FAULTS = {
     "reads_as_any": "lends a slice of u64 to sample::first_of_any",
     "lends_as_any": "lends a slice of u64 to sample::itself",
     "wraps": "has a slice of u64 below the top of a type",
+    "splits": "does something else with a slice that it splits than make a book",
+    "splits_again": "does something else with a slice that it splits than make a book",
+    "splits_and_hands_one_out": "does something else with a slice that it splits than make a book",
+    "splits_and_lends_the_rest": "does something else with a slice that it splits than make a book",
     "splits_and_writes": "reaches 1 elements",
     "splits_and_hands_out": "has a slice of u64 below the top of a type",
     "pairs": "has a slice of u64 below the top of a type",
     "RefMutSliceU64Cells::shown": "reaches 1 elements",
+    "RefMutSliceU64Rest::rest": "hands out something else than the very slice that it is lent",
+    "RefSliceU64Rest::rest": "hands out something else than the very slice that it is lent",
     "Book::peek": "reaches 1 elements",
+    "Book+mut+slice+u64::find_and_set": "reaches 1 elements",
     "Book+mut+slice+u64::set": "reaches 1 elements",
     "makes_a_shelf": "has a slice of u64 below the top of a type",
     "makes_a_book_of_an_array": "has a slice of u64 that is no part of one that came in",
@@ -545,10 +622,55 @@ def mistaken(body, own, lists):
                 yield called
 
 
+def may_bring_tables(body):
+    """The parameters that may bring a slice of u64 in, also behind the names of types: what has a type parameter may."""
+    found = set()
+    for number in parameters(body):
+        shapes = {one[1]: one[2] for one in items(body[6])}
+        ahead = [kinds(body)[int(number)]]
+        while ahead:
+            for node in walk(ahead.pop()):
+                if is_table(node) or node[:1] == ["tyParam"]:
+                    found.add(number)
+                if node[:1] == ["tyNamed"] and node[1][1] in shapes:
+                    ahead.append(put_in(shapes.pop(node[1][1]), given_types(node)))
+    return found
+
+
+def of_lists(body, own):
+    """Whether all that may bring a slice of u64 in is the function's own lists: so it has no table."""
+    return bool(own) and own == slices(body) & {*parameters(body)} == may_bring_tables(body)
+
+
 def of_a_constant(body, bodies):
-    """Whether all slices of u64 that a function has are of constants, and are lent to nobody in the program."""
-    lent = {one for one, arguments, _ in calls(body) if any(local_of(it) in slices(body) for it in arguments)}
-    return bool(slices(body)) and all(origins(body, one) == {"a constant"} for one in slices(body)) and not lent & set(bodies)
+    """Whether no slice of u64 may come in, and all that a function has are of constants, and are lent to nobody in the program."""
+    lent = {one for one, arguments, _ in calls(body) if any(is_table(kind_of(body, it)) for it in arguments)}
+    are_constant = all(origins(body, one) == {"a constant"} for one in slices(body))
+    return bool(slices(body)) and not may_bring_tables(body) and are_constant and not lent & set(bodies)
+
+
+def shows(body):
+    """Whether a function does nothing but hand out, whole, the very slice that it is lent behind a reference."""
+    def is_of_it(operand, steps):
+        place = place_of(operand)
+        return bool(place) and place[1] == "1" and [step[:2] if step[0] == "field" else step[0] for step in items(place[2])] == steps
+
+    made = {target[1]: value for target, value in assigns(body) if target[2] == "lnil"}
+    parts = [made.get(local_of(one), ["none"]) for one in items(made["0"][1])] if made.get("0", [""])[0] == "aggregate" else []
+    plain = len(made) == len(assigns(body)) == 3 and not list(calls(body)) and not any(node[0] in ("if", "switch", "block", "loop") for node in walk(body[5]))
+    lent = kinds(body)[1] if parameters(body) == ["1"] else ["none"]
+    return (plain and lent[0] == "tyRef" and is_table(lent[-1]) and is_table(kinds(body)[0]) and [one[0] for one in parts] == ["addrOf", "rvOpd"]
+            and is_of_it(["copy", parts[0][1]], ["deref", ["field", "0"], "deref"]) and is_of_it(parts[1][1], ["deref", ["field", "1"]]))
+
+
+def splits_wrongly(body, makers):
+    """Whether a function that splits a slice does something else with it, or with its parts, than make a book: it hands none out, and lends them to nobody else."""
+    split = [(arguments[0], target) for name, arguments, target in calls(body) if name == SPLIT]
+    pairs = {target[1] for _, target in split}
+    whole = [place for place in named(body[5]) if place[1] in pairs and place[2] == "lnil"]
+    lent = {name for name, arguments, _ in calls(body) if any(is_table(kind_of(body, one)) for one in arguments)}
+    came_in = all(place_of(one) and origins(body, place_of(one)[1]) <= {*parameters(body)} for one, _ in split)
+    return bool(split) and not (came_in and lent <= {SPLIT, *makers} and len(whole) == len(split) and not is_table(kinds(body)[0]))
 
 
 def faults(bodies, accesses, makers, shown, holders, lists, hosts):
@@ -562,15 +684,15 @@ def faults(bodies, accesses, makers, shown, holders, lists, hosts):
             continue
         own = lists.get(name, set())
         found = [f"lends {one} something else than a list of requests or answers" for one in mistaken(body, own, lists)]
-        if name in accesses:
-            found += access_faults(body)
-        elif not (own and own == slices(body) & {*parameters(body)} or of_a_constant(body, bodies)):
-            # where all slices that come in are lists, there is no table
+        found += access_faults(body) if name in accesses else []
+        if not (of_lists(body, own) or of_a_constant(body, bodies)):
             if name not in hosts:
-                found += [f"reaches {reached(body)} elements of a slice of u64"] if reached(body) else []
+                found += [f"reaches {reached(body)} elements of a slice of u64"] if reached(body) and name not in accesses else []
                 found += ["has a slice of u64 that is no part of one that came in"] if not all(
                     one and one <= {*parameters(body), "a call"} for one in (origins(body, one) for one in slices(body))) else []
             found += ["has a slice of u64 below the top of a type"] if buried(body, holders) and name not in shown else []
+            found += ["hands out something else than the very slice that it is lent"] if name in shown and not shows(body) else []
             found += [f"lends a slice of u64 to {one}" for one in strayed(body, bodies, is_table) if one not in {*makers, SPLIT}]
+            found += ["does something else with a slice that it splits than make a book"] if splits_wrongly(body, makers) else []
         wrong += [f"{name} {one}" for one in dict.fromkeys(found)]
     return wrong

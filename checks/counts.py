@@ -9,13 +9,14 @@ counts on this one number, or that it is the number handed out. These rules over
 - `Book::new` sets a book's count to 0, and `Book::spent` tells it. Elsewhere a book is lent on as it came, to functions that take one there, and its arena is
   read: nothing else is done with it. So it stands nowhere but behind a reference of its own, and nobody below a request has one of its own or looks at its
   count.
-- A request makes one book, over a slice of u64, and has no loop. On each way to its end it hands out a reply whose second field is what the book's
-  `spent` told when nothing more was done with the book, or 0 where no book was made.
-- A function that is handed a reply with its count returns it as it is or puts its count into a result of its own, or adds its count to a sum that was
-  set to 0 once, before any such call, and returns a result with the sum's last value at its end. A result with no count is for where nothing was counted.
+- A request is lent no book and makes one, over a slice of u64, and has no loop. On each way to its end it hands out a reply whose second field is what the
+  book's `spent` told when nothing more was done with the book, or 0 where no book was made.
+- A function that is handed a reply with its count returns it as it is or puts its count into a result of its own, where it is handed no more than this one, or
+  adds its count to a sum that was set to 0 once, before any such call, and returns a result with the sum's last value at its end. A result with no count is
+  for where nothing was counted.
 - A function of the C interface makes one request at most, by itself and by all that it calls.
 - Each call names the function that it calls, but for those that run.py lists, and no function that makes a request is handed on as a value. The host,
-  which is no part of the library, may call through a bound, and has no book.
+  which is no part of the library, may call through a bound, and has no book. Who may do so lends no count there, by itself or in a struct.
 
 Where the code has another shape than these rules know, they complain.
 """
@@ -23,7 +24,8 @@ import functools
 from dataclasses import dataclass, replace
 
 from accesses import is_table
-from mir import addressed, arms, assigns, callee, calls, given_types, handed, items, kind_of, kinds, local_of, named, parameters, place_of, strayed, target, walk, ways
+from mir import (addressed, arms, assigns, callee, calls, given_types, handed, items, kind_of, kinds, kinds_along, local_of, named, parameters, place_of, strayed,
+                 target, walk, ways)
 
 NONE = ["int", "64", "0"]
 # the parts of a function: one that is free makes requests and hands out no count, and so does the host that lends the table; one that tells makes replies
@@ -145,6 +147,19 @@ impl Counted<u64> {
     pub fn set_to_nothing(&mut self) {
         self.spent = 0;
     }
+
+    pub fn set_to(&mut self, n: u64) {
+        self.spent = n;
+    }
+}
+
+#[derive(Clone, Copy)]
+pub struct NotServed;
+
+#[derive(Clone, Copy)]
+pub struct Served {
+    pub answer: Result<(), NotServed>,
+    pub spent: u64,
 }
 
 // ---- a book that is not right
@@ -188,6 +203,19 @@ impl<C: Cells> Loose<C> {
 
     pub fn empty(&mut self) {
         set_to_nothing(&mut self.spent);
+    }
+
+    pub fn beside(cells: &[u64], at: usize) -> u64 {
+        let mut spent = 0;
+        counts_get(cells, at, &mut spent)
+    }
+
+    pub fn in_a_pair(pair: &mut (u64, u64), cells: &[u64], at: usize) -> u64 {
+        counts_get(cells, at, &mut pair.1)
+    }
+
+    pub fn lend<T: Other>(&mut self, other: &T) {
+        other.add(&mut self.spent);
     }
 
     pub fn address(&mut self) -> &mut u64 {
@@ -263,6 +291,21 @@ pub fn counts_two_numbers(other: &mut u64, spent: &mut u64) {}
 pub fn counts_and_lends_it_elsewhere(t: &[u64], spent: &mut u64) -> u64 {
     let x = counts_get(t, 3, &mut *spent);
     set_to_nothing(&mut *spent);
+    x
+}
+
+#[derive(Drop)]
+pub struct Lender<'a> {
+    pub spent: &'a mut u64,
+}
+
+fn set_behind_to_nothing(lender: Lender<'_>) {
+    *lender.spent = 0;
+}
+
+pub fn counts_and_lends_in_a_struct(t: &[u64], spent: &mut u64) -> u64 {
+    let x = counts_get(t, 3, &mut *spent);
+    set_behind_to_nothing(Lender { spent: &mut *spent });
     x
 }
 
@@ -526,6 +569,154 @@ pub fn opens_and_sets_its_reply(t: &[u64], n: u64) -> Counted<u64> {
     };
     counted.spent = 0;
     counted
+}
+
+pub fn opens_and_tells_none_once(t: &[u64], n: u64) -> Counted<u64> {
+    let mut book = Book::new(t, n);
+    let x = book.get(0);
+    if x == 7 {
+        return Counted {
+            answer: Ok(x),
+            spent: 0,
+        };
+    }
+    Counted {
+        answer: Ok(x),
+        spent: book.spent(),
+    }
+}
+
+pub fn opens_on_one_way(t: &[u64], n: u64) -> Counted<u64> {
+    if n == 7 {
+        let mut book = Book::new(t, n);
+        book.get(0);
+    }
+    Counted {
+        answer: Ok(n),
+        spent: 0,
+    }
+}
+
+pub fn opens_and_copies_on_one_way(t: &[u64], n: u64) -> Counted<u64> {
+    let mut book = Book::new(t, n);
+    let x = book.get(0);
+    let mut copy = 0;
+    if x == 7 {
+        copy = book.spent();
+    }
+    Counted {
+        answer: Ok(x),
+        spent: copy,
+    }
+}
+
+pub fn opens_and_sets_a_copy(t: &[u64], n: u64) -> Counted<u64> {
+    let mut book = Book::new(t, n);
+    let x = book.get(0);
+    let mut copy = book.spent();
+    copy = 3;
+    Counted {
+        answer: Ok(x),
+        spent: copy,
+    }
+}
+
+pub fn opens_and_calls_for_a_copy(t: &[u64], n: u64) -> Counted<u64> {
+    let mut book = Book::new(t, n);
+    let x = book.get(0);
+    let mut copy = book.spent();
+    copy = counts_of(n);
+    Counted {
+        answer: Ok(x),
+        spent: copy,
+    }
+}
+
+pub fn opens_and_empties_a_copy(t: &[u64], n: u64) -> Counted<u64> {
+    let mut book = Book::new(t, n);
+    let x = book.get(0);
+    let spent = book.spent();
+    let mut copy = spent;
+    set_to_nothing(&mut copy);
+    Counted {
+        answer: Ok(x),
+        spent: copy,
+    }
+}
+
+pub fn opens_and_tells_of_another(t: &[u64], n: u64, other: &mut Shown<'_>) -> Counted<u64> {
+    let mut book = Book::new(t, n);
+    let x = book.get(0);
+    Counted {
+        answer: Ok(x),
+        spent: other.spent(),
+    }
+}
+
+pub fn opens_and_tells_none_of_the_rounds(t: &[u64], n: u64) -> Counted<u64> {
+    let mut book = Book::new(t, n);
+    let mut all = 0;
+    for i in 0..n {
+        all ^= book.get(i as usize);
+    }
+    Counted {
+        answer: Ok(all),
+        spent: 0,
+    }
+}
+
+pub fn opens_and_tells_of_before_the_rounds(t: &[u64], n: u64) -> Counted<u64> {
+    let mut book = Book::new(t, n);
+    let mut all = book.get(0);
+    let before = book.spent();
+    for i in 0..n {
+        all ^= book.get(i as usize);
+    }
+    Counted {
+        answer: Ok(all),
+        spent: before,
+    }
+}
+
+pub fn opens_and_leaves_a_round(t: &[u64], n: u64) -> Counted<u64> {
+    let mut book = Book::new(t, n);
+    for i in 0..n {
+        let before = book.spent();
+        if book.get(i as usize) == 7 {
+            return Counted {
+                answer: Ok(i),
+                spent: before,
+            };
+        }
+    }
+    Counted {
+        answer: Ok(n),
+        spent: book.spent(),
+    }
+}
+
+pub fn opens_through_another(t: &mut [u64], n: u64) -> Counted<u64> {
+    let x = asks_once(t, n);
+    Counted {
+        answer: Ok(x),
+        spent: 0,
+    }
+}
+
+pub fn opens_by_itself(t: &[u64], n: u64) -> Counted<u64> {
+    let mut book = Book::new(t, n);
+    let x = book.get(0);
+    if x == 0 {
+        return Counted {
+            answer: Ok(x),
+            spent: book.spent(),
+        };
+    }
+    let one = opens_by_itself(t, n / 2);
+    Counted {
+        answer: one.answer,
+        spent: book.spent(),
+    }
 }
 
 pub fn opens_two(t: &[u64], n: u64) -> Counted<u64> {
@@ -1004,6 +1195,123 @@ pub fn adds_after_one(t: &mut [u64], n: u64) -> Counted<u64> {
     opens_rightly(t, one.number())
 }
 
+pub fn adds_after_a_pair(t: &mut [u64], n: u64) -> (u64, u64) {
+    let one = opens_rightly(t, n);
+    let pair = (one.number(), one.spent);
+    adds_to_what_is_given(opens_rightly(t, pair.0))
+}
+
+pub fn adds_after_one_way(t: &mut [u64], n: u64) -> (u64, u64) {
+    let one = if n == 0 {
+        (7, 0)
+    } else {
+        adds_to_what_is_given(opens_rightly(t, n))
+    };
+    if one.0 == 3 {
+        return adds_to_what_is_given(opens_rightly(t, n));
+    }
+    one
+}
+
+pub fn adds_into_a_part(t: &mut [u64], n: u64) -> (u64, u64) {
+    let mut pair = (Counted::refused(1), n);
+    pair.0 = opens_rightly(t, n);
+    (pair.1, 0)
+}
+
+pub fn adds_the_first_again(t: &mut [u64], n: u64) -> Option<u64> {
+    let mut spent = 0;
+    let mut one = opens_rightly(t, n);
+    let first = one.spent;
+    spent += first;
+    one = opens_rightly(t, n);
+    spent += first;
+    Some(spent)
+}
+
+pub fn adds_the_one_before(t: &mut [u64], n: u64) -> Option<u64> {
+    let mut spent = 0;
+    let mut one = opens_rightly(t, n);
+    spent += one.spent;
+    let before = one;
+    one = opens_rightly(t, n);
+    spent += before.spent;
+    Some(spent)
+}
+
+pub fn adds_to_a_refusal(n: u64) -> Counted<u64> {
+    let mut counted = Counted::refused(1);
+    counted = Counted::refused(n);
+    counted.set_to(5);
+    counted
+}
+
+fn adds_none_to_what_is_given(mut counted: Counted<u64>) -> (u64, u64) {
+    counted.set_to_nothing();
+    (counted.number(), counted.spent)
+}
+
+pub fn adds_and_serves(t: &mut [u64], n: u64) -> Served {
+    if n == 7 {
+        return Served {
+            answer: Err(NotServed),
+            spent: 0,
+        };
+    }
+    let mut spent = 0;
+    for i in 0..n {
+        let (number, accesses) = adds_to_a_pair(t, i);
+        set_to_nothing(&mut t[0]);
+        spent += accesses;
+    }
+    Served {
+        answer: Ok(()),
+        spent,
+    }
+}
+
+pub fn adds_and_serves_for_nothing(t: &mut [u64], n: u64) -> Served {
+    let mut spent = 0;
+    for i in 0..n {
+        let (number, accesses) = adds_to_a_pair(t, i);
+        spent += accesses;
+    }
+    Served {
+        answer: Ok(()),
+        spent: 0,
+    }
+}
+
+pub fn adds_and_serves_no_more(t: &mut [u64], n: u64) -> Served {
+    let mut spent = 0;
+    let (number, accesses) = adds_to_a_pair(t, n);
+    spent += accesses;
+    if number == 7 {
+        return Served {
+            answer: Err(NotServed),
+            spent: 0,
+        };
+    }
+    Served {
+        answer: Ok(()),
+        spent,
+    }
+}
+
+pub fn adds_and_serves_the_last(t: &mut [u64], n: u64) -> Served {
+    let mut spent = 0;
+    let mut last = 0;
+    for i in 0..n {
+        let (number, accesses) = adds_to_a_pair(t, i);
+        spent += accesses;
+        last = accesses;
+    }
+    Served {
+        answer: Ok(()),
+        spent: last,
+    }
+}
+
 pub fn adds_in_a_closure(t: &mut [u64], n: u64) -> Option<u64> {
     (0..n).find(|i| opens_rightly(t, *i).spent == 7)
 }
@@ -1098,6 +1406,8 @@ pub fn helps(t: &mut [u64], n: u64) -> u64 {
 
 pub trait Other {
     fn tell(&self, n: u64) -> u64;
+    fn add(&self, spent: &mut u64);
+    fn lend(&self, lender: Lender<'_>);
     fn hold(&self, book: &mut Shown<'_>);
 }
 
@@ -1115,6 +1425,16 @@ pub fn host_that_calls_a_closure<F: Fn(u64) -> u64>(f: F, n: u64) -> u64 {
 
 pub fn host_that_hands_it_on(t: &mut [u64], n: u64) -> Counted<u64> {
     opens_rightly(t, n)
+}
+
+pub fn host_that_lends_a_count_through_a_bound<T: Other>(other: &T, n: u64) -> u64 {
+    let mut spent = n;
+    other.add(&mut spent);
+    spent
+}
+
+pub fn host_that_lends_a_struct_with_a_count<T: Other>(other: &T, lender: Lender<'_>) {
+    other.lend(lender);
 }
 
 pub fn host_that_has_a_book<T: Other>(other: &T, t: &[u64]) {
@@ -1147,9 +1467,12 @@ pub fn counts_with_a_closure<F: Fn(u64) -> u64>(f: F, book: &mut Shown<'_>) -> u
 FAULTS = {
     "Loose::address": "hands out its count itself",
     "Loose::begin": "makes a book by itself",
+    "Loose::beside": "calls a function that counts, and does not count itself",
     "Loose::count": "calls sample::counts_one, which is not for it",
     "Loose::empty": "does something else with a count than lend it",
     "Loose::get": "lends sample::counts_get another count than its own",
+    "Loose::in_a_pair": "calls a function that counts, and does not count itself",
+    "Loose::lend": "lends a count to a function that the call does not name",
     "Loose::new": "is not what `new` of a book is",
     "Loose::peek": "calls a function that the call does not name",
     "Loose::reset": "changes a book",
@@ -1162,6 +1485,7 @@ FAULTS = {
     "counts_and_hands_it_out": "hands out a book",
     "counts_and_hands_its_number_out": "hands out its count itself",
     "counts_and_hands_out_a_reply": "returns a reply with its count, and neither opens a count nor adds counts up",
+    "counts_and_lends_in_a_struct": "does something else with a count than lend it",
     "counts_and_lends_it_elsewhere": "does something else with a count than lend it",
     "counts_and_lends_to_any": "lends a book to sample::taken_for_any",
     "counts_and_swaps": "lends a book to std::mem::swap",
@@ -1191,30 +1515,47 @@ FAULTS = {
     "counts_without_access": "calls sample::counts_one, which is not for it",
     "opens_a_fake": "makes a book of something else than a slice of u64",
     "opens_again": "does not make one book",
+    "opens_and_calls_for_a_copy": "hands out something else than its book's count",
     "opens_and_calls_through_a_bound": "calls a function that the call does not name",
+    "opens_and_copies_on_one_way": "hands out something else than its book's count",
+    "opens_and_empties_a_copy": "hands out something else than its book's count",
+    "opens_and_leaves_a_round": "has a loop",
     "opens_and_lends_what_it_tells": "hands out something else than its book's count",
     "opens_and_reads_its_count": "reaches into a book",
+    "opens_and_sets_a_copy": "hands out something else than its book's count",
     "opens_and_sets_its_reply": "hands out something else than its book's count",
     "opens_and_sets_what_it_tells": "hands out something else than its book's count",
     "opens_and_swaps": "lends a book to std::mem::replace",
     "opens_and_tells_early": "names its book after it has read the count",
     "opens_and_tells_half": "hands out something else than its book's count",
     "opens_and_tells_none": "hands out something else than its book's count",
+    "opens_and_tells_none_of_the_rounds": "has a loop",
+    "opens_and_tells_none_once": "hands out something else than its book's count",
+    "opens_and_tells_of_another": "is lent a book",
+    "opens_and_tells_of_before_the_rounds": "has a loop",
     "opens_and_then_refuses": "hands out something else than its book's count",
     "opens_another": "calls sample::opens_rightly, which counts apart",
     "opens_around_another": "calls sample::opens_rightly, which counts apart",
     "opens_by_hand": "makes a book by itself",
+    "opens_by_itself": "calls sample::opens_by_itself, which counts apart",
     "opens_each_round": "has a loop",
     "opens_in_a_box": "hands out no reply with its count",
     "opens_in_a_closure": "has a book inside something else",
     "opens_nothing": "does not make one book",
     "opens_nothing_and_tells_five": "hands out something else than its book's count",
+    "opens_on_one_way": "hands out something else than its book's count",
+    "opens_through_another": "calls sample::asks_once, which counts apart",
     "opens_two": "does not make one book",
     "tells_five": "hands out something else than its book's count",
     "tells_of_a_book": "calls sample::Book::new, which is not for it",
     "adds_by_itself_for_nothing": "adds a count on one way only",
-    "adds_after_one": "returns without adding a count",
+    "adds_after_a_pair": "calls sample::opens_rightly before its sum is set to 0",
+    "adds_after_one": "calls sample::opens_rightly before its sum is set to 0",
+    "adds_after_one_way": "calls sample::opens_rightly before its sum is set to 0",
     "adds_again": "changes its sum",
+    "adds_and_serves_for_nothing": "returns something else than its count",
+    "adds_and_serves_no_more": "returns something else than its count",
+    "adds_and_serves_the_last": "returns something else than its count",
     "adds_and_empties_a_copy": "returns something else than its count",
     "adds_and_leaves_a_round": "returns without adding a count",
     "adds_and_lends_a_reply": "returns without adding a count",
@@ -1224,19 +1565,24 @@ FAULTS = {
     "adds_and_then_none": "returns something else than its count",
     "adds_from_a_number": "changes its sum",
     "adds_in_a_closure": "hands on sample::fn::adds_in_a_closure::find+FnMut::call_mut, which makes a request",
+    "adds_into_a_part": "returns without adding a count",
     "adds_no_box": "calls sample::opens_in_a_box, which counts apart",
     "adds_no_more": "goes on without adding a count",
     "adds_no_sum": "returns something else than its count",
+    "adds_none_to_what_is_given": "returns without adding a count",
     "adds_not_all_rounds": "goes on without adding a count",
     "adds_nothing_for_one": "changes a reply whose count is to be added",
     "adds_nothing_to_what_is_given": "returns without adding a count",
     "adds_over_one": "loses a count at the call of sample::opens_rightly",
     "adds_some": "adds a count on one way only",
     "adds_the_first_twice": "changes its sum",
+    "adds_the_first_again": "changes its sum",
+    "adds_the_one_before": "changes its sum",
     "adds_through_another": "calls sample::asks_once, which counts apart",
     "adds_to_a_pair_of_none": "returns without adding a count",
     "adds_to_a_pair_of_numbers": "returns without adding a count",
     "adds_to_a_pair_the_first": "returns without adding a count",
+    "adds_to_a_refusal": "returns something else than its count",
     "adds_to_an_option_of_an_option": "calls sample::adds_rightly, which counts apart",
     "adds_to_what_is_made": "returns without adding a count",
     "adds_two_for_one": "changes a reply whose count is to be added",
@@ -1261,6 +1607,8 @@ FAULTS = {
     "Other::hold": "has a book, and does not count",
     "host_that_hands_it_on": "returns a reply with its count, and neither opens a count nor adds counts up",
     "host_that_has_a_book": "has a book, and does not count",
+    "host_that_lends_a_count_through_a_bound": "lends a count to a function that the call does not name",
+    "host_that_lends_a_struct_with_a_count": "lends a count to a function that the call does not name",
     "fn::adds_in_a_closure::find": "returns without adding a count",
     "fn::adds_in_a_closure::find+FnMut::call_mut": "calls sample::fn::adds_in_a_closure::find, which counts apart",
     "fn::adds_in_a_closure::find+FnOnce::call_once": "calls sample::fn::adds_in_a_closure::find, which counts apart",
@@ -1341,6 +1689,20 @@ def holding_faults(body, counting):
     return wrong + (["looks at its count or changes it"] if sum(said(place)[1][:2] == ["deref", "field 1"] for place in named(body[5])) != uses else [])
 
 
+def has_count(body, operand):
+    """Whether the type of what is lent has a `&mut u64` in it, also behind the names of types."""
+    shapes = {one[1]: one[2] for one in items(body[6])}
+    place = place_of(operand)
+    ahead = kinds_along(body, place) if place else []
+    while ahead:
+        for node in walk(ahead.pop()):
+            if is_count(node):
+                return True
+            if node[:1] == ["tyNamed"] and node[1][1] in shapes:
+                ahead.append(shapes.pop(node[1][1]))
+    return False
+
+
 class Program:
     """A program and the names that the rules speak of."""
 
@@ -1369,6 +1731,10 @@ class Program:
     def is_either(self, kind):
         """A book, or a reference to one."""
         return self.is_held(kind) or self.is_lent(kind)
+
+    def is_of_a_book(self, name):
+        """Whether a function is one of a book, which it is lent first."""
+        return maker_of(name)[0] in self.books and any(self.is_lent(kinds(self.bodies[name])[int(one)]) for one in parameters(self.bodies[name])[:1])
 
     def is_reply(self, kind):
         """A reply with its count."""
@@ -1479,6 +1845,8 @@ class Program:
         body = self.bodies[name]
         found = ways(body[5])
         wrong = [] if self.is_reply(kinds(body)[0]) else ["hands out no reply with its count"]
+        if any(self.is_either(kinds(body)[int(number)]) for number in parameters(body)):
+            wrong.append("is lent a book")
         if found is None:
             return wrong + ["has a loop"]
         made = [one for way in found for one in way if one[0] == "call" and callee(one) in self.making]
@@ -1549,9 +1917,9 @@ class Known:
     counts: frozenset = frozenset()   # (local, reply): the locals that hold its count
 
     def without(self, local):
-        """After a local was set to something else."""
-        return replace(self, same=self.same - {local}, told=self.told - {local}, held=frozenset(one for one in self.held if one[0] != local),
-                       counts=frozenset(one for one in self.counts if one[0] != local))
+        """After a local was set to something else: what it held, and what others hold of the reply that came in it, is not known any more."""
+        held, counts = (frozenset(one for one in pairs if local not in one) for pairs in (self.held, self.counts))
+        return replace(self, same=self.same - {local}, told=self.told - {local}, held=held, counts=counts)
 
     def counted(self, sum_):
         """After more may have been counted."""
@@ -1698,21 +2066,24 @@ class Adding:
 
     def after_call(self, call, known):
         """What is known after a call."""
-        program, name, local = self.program, callee(call), call[3][1]
-        if local == self.sum or dict(known.held).get(local) in known.owed:
+        program, name, local, whole = self.program, callee(call), call[3][1], call[3][2] == "lnil"
+        if local == self.sum or known.owed & {local, dict(known.held).get(local)}:
             self.wrong.append(f"loses a count at the call of {name}")
         after = known.without(local)
-        if name not in program.replying or call[3][2] != "lnil":
+        if name not in program.replying:
             return after
         if name not in program.hidden | program.taking:
-            return after if known.called else replace(after, told=after.told | {local})
+            return replace(after, told=after.told | {local}) if whole and local not in self.lent and not known.called else after
+        if name in program.hidden and known.called and not known.begun:
+            self.wrong.append(f"calls {name} before its sum is set to 0")
         if local in self.lent:
             self.wrong.append("lends a reply whose count is to be added")
         # the result of a function that is given replies has their count too
         given = [self.reply_of(one, known)[0] for one in items(call[2]) if program.is_reply(kind_of(self.body, one))]
-        if name in program.taking and (len(set(given)) < len(given) or not known.owed.issuperset(given)):
-            return after
         after = after.counted(self.sum) if name in program.hidden else after
+        if not whole or name in program.taking and (len(set(given)) < len(given) or not known.owed.issuperset(given)):
+            # the count of a request is owed, also where its reply is in no local of its own
+            return replace(after, owed=after.owed | {local}) if name in program.hidden else after
         return replace(after, owed=after.owed - set(given) | {local}, held=after.held | {(local, local)})
 
 
@@ -1740,6 +2111,8 @@ def faults_of(program, name):
     wrong = program.exact_faults(name) + program.handling_faults(name)
     if None in called and name not in program.unnamed and part != "host":
         wrong.append("calls a function that the call does not name")
+    if any(has_count(body, argument) for one, arguments, _ in calls(body) if one is None for argument in arguments):
+        wrong.append("lends a count to a function that the call does not name")
     wrong += [f"calls {one}, which is not for it" for one in sorted(called - {None}) if not program.may_call(name, one)]
     if part != "host":
         wrong += [f"hands on {one}, which makes a request" for one in sorted(handed(body, program.bodies) & program.hidden)]
@@ -1750,7 +2123,7 @@ def faults_of(program, name):
         wrong += [f"calls {one}, which counts apart" for one in sorted(called & program.hidden - (program.replying if part == "adds" else set()))]
     if name in program.counting:
         wrong += passing_faults(body, program.counting) if name != program.counter else []
-    elif called & program.counting and not (part == "counts" and maker_of(name)[0] in program.books):
+    elif called & program.counting and not (part == "counts" and program.is_of_a_book(name)):
         wrong.append("calls a function that counts, and does not count itself")
     if part in ("opens", "tells") and (part == "opens" or name in program.hidden | program.replying):
         return wrong + program.opening_faults(name)

@@ -2,12 +2,13 @@
 
 `Book::new` and `Book::over` each ask in their contract for exactly the cells that the arena needs, and whoever calls them has to prove what they ask. Each request lends one of them the
 first cells of its table, as many as the arena says, and has the arena from an admission of its own m and its table's length, whose contract says that the
-arena is that of m. Works on the code as it is proved and compiled (`mir.py`), and on the contracts in the source.
+arena is that of m. Nobody else is lent its table or a part of it, but `split_at_mut`, by which the first cells may be parted from the rest. Works on the code
+as it is proved and compiled (`mir.py`), and on the contracts in the source.
 """
 import re
 
 from accesses import SPLIT, is_table
-from mir import assigns, callee, calls, items, kinds, local_of, parameters, place_of, set_by, target, walk
+from mir import assigns, callee, calls, items, kind_of, kinds, local_of, parameters, place_of, set_by, target, walk
 
 # what `Book::new` and `Book::over` ask of the cells, and what an admission promises: the clause, and where its words come from
 ASKED = (r"length (?:\(C\.list cells\)|cells\.old) ≡ need arena\.m", {"length": "Rattle.std.specs.Prelude.length", "need": "Rattle.table.specs.Table.need"})
@@ -102,6 +103,45 @@ pub fn rightly_split(t: &mut [u64], m: u64) -> u64 {
     match admit(m, t.len()) {
         Ok(arena) => {
             let (cells, _) = t.split_at_mut(arena.cells());
+            Book::new(cells, arena).arena.m
+        }
+        Err(why) => why,
+    }
+}
+
+fn is_long(t: &[u64]) -> bool {
+    3 < t.len()
+}
+
+fn work(book: &mut Book<'_>, rest: &mut [u64]) {}
+
+pub fn lends_all(t: &mut [u64], m: u64) -> u64 {
+    if !is_long(t) {
+        return m;
+    }
+    match admit(m, t.len()) {
+        Ok(arena) => Book::new(&mut t[..arena.cells()], arena).arena.m,
+        Err(why) => why,
+    }
+}
+
+pub fn lends_the_rest(t: &mut [u64], m: u64) -> u64 {
+    match admit(m, t.len()) {
+        Ok(arena) => {
+            let (cells, rest) = t.split_at_mut(arena.cells());
+            let mut book = Book::new(cells, arena);
+            work(&mut book, rest);
+            book.arena.m
+        }
+        Err(why) => why,
+    }
+}
+
+pub fn lends_the_rest_to_std(t: &mut [u64], m: u64) -> u64 {
+    match admit(m, t.len()) {
+        Ok(arena) => {
+            let (cells, rest) = t.split_at_mut(arena.cells());
+            rest.fill(0);
             Book::new(cells, arena).arena.m
         }
         Err(why) => why,
@@ -260,6 +300,9 @@ OTHER_CELLS = "makes its book over other cells than the first that its arena nee
 OTHER_ARENA = "has its arena from elsewhere than an admission of its own m and its table"
 # the functions of the example that are wrong, each with what is to be said of it
 FAULTS = {
+    "lends_all": "lends a slice of u64 to sample::is_long, which makes no book",
+    "lends_the_rest": "lends a slice of u64 to sample::work, which makes no book",
+    "lends_the_rest_to_std": "lends a slice of u64 to std::slice+T::fill, which makes no book",
     "the_rest": OTHER_CELLS,
     "split_elsewhere": OTHER_CELLS,
     "split_of_a_part": OTHER_CELLS,
@@ -370,7 +413,10 @@ def admission(body, arena, table, own):
 
 
 def request_faults(name, body, making, counting, admits, own):
-    """Faults of a request: its book is made by one of the first functions, the second says how many cells an arena needs, the third whether a function admits."""
+    """Faults of a request: its book is made by one of the first functions, the second says how many cells an arena needs, the third whether a function admits.
+
+    Those that make its book, and that by which its table is split, are all that is lent a slice of u64: so nobody else has its table, or the rest of it.
+    """
     wrong = []
     for called, arguments, _ in calls(body):
         if called in making:
@@ -379,6 +425,8 @@ def request_faults(name, body, making, counting, admits, own):
                 wrong.append(f"{name} {OTHER_CELLS}")
             elif not admits(admission(body, arguments[1], table, own)):
                 wrong.append(f"{name} {OTHER_ARENA}")
+        elif called != SPLIT and any(is_table(kind_of(body, one)) for one in arguments):
+            wrong.append(f"{name} lends a slice of u64 to {called or 'a function that the call does not name'}, which makes no book")
     return wrong
 
 

@@ -157,12 +157,12 @@ MAKERS = {f"{BOOK}::new", f"{BOOK}+mut+slice+u64::over"}
 SHOWN = {f"walks::book::{name}Cells::shown" for name in ("RefSliceU64", "RefMutSliceU64")}
 # The six requests: each makes one book, over the cells that its arena needs.
 REQUESTS = {f"arena::{name}" for name in ("start", "take", "give_back", "which", "figures", "check_up")}
-# What a request hands out, with its count as the second field; and the functions of the library that call through a bound: three of a book of
-# any kind, which has its cells shown, and two of a reply of any kind, which says its values and is copied.
-REPLY = "arena::told::Counted"
+# What a request hands out, and what `serve` does, each with its count as the second field; and the functions of the library that call through a bound:
+# three of a book of any kind, which has its cells shown, and two of a reply of any kind, which says its values and is copied.
+REPLY, SERVED = "arena::told::Counted", "sequence::Served"
 THROUGH_A_BOUND = {*(f"{BOOK}::{name}" for name in ("get", "down", "locate")), f"{REPLY}::numbers", f"{REPLY}Clone::clone"}
 # The lists of requests and of answers are slices of u64 too: the functions of `sequence` that have such lists, and the names of the parameters that
-# are. The table is none of these parameters. Where a function has no other slices of u64, it may do with them what it likes.
+# are. The table is none of these parameters. Where nothing else that comes in may have a slice of u64, a function may do with them what it likes.
 LISTS = {
     "request_at": {"requests"},
     "store": {"answers"},
@@ -216,7 +216,7 @@ def access_check_catches():
     """The check of accesses catches each function of its example that reaches elements or hides a slice, and no other."""
     bodies = code_of(accesses.SAMPLE)
     gets = {name for name in bodies if name.startswith("sample::gets")}
-    shown = of_sample("RefSliceU64Cells::shown", "RefMutSliceU64Cells::shown")
+    shown = of_sample("RefSliceU64Cells::shown", "RefMutSliceU64Cells::shown", "RefSliceU64Rest::rest", "RefMutSliceU64Rest::rest")
     return differences(accesses.faults(bodies, gets, of_sample("Book::new"), shown, of_sample("Book"), accesses.SAMPLE_LISTS, set()), accesses.FAULTS)
 
 
@@ -230,7 +230,7 @@ def part_of(name):
 
 def counts_kept():
     """The number of accesses that a request hands out is the count that cells::get and cells::put kept."""
-    return counts.faults(all_code(), part_of, COUNTER, ACCESSES, {BOOK}, {REPLY}, THROUGH_A_BOUND)
+    return counts.faults(all_code(), part_of, COUNTER, ACCESSES, {BOOK}, {REPLY, SERVED}, THROUGH_A_BOUND)
 
 
 def part_in_sample(name):
@@ -244,8 +244,8 @@ def count_check_catches():
     """The check of counts catches each function of its example that counts wrongly, and no other."""
     bodies = code_of(counts.SAMPLE)
     gets = {name for name in bodies if name.startswith("sample::counts_get")}
-    unnamed = of_sample("Book::get", "Loose::get", "CountedClone::clone")
-    one, two = (counts.faults(bodies, part_in_sample, counter, gets, of_sample("Book", "Loose"), of_sample("Counted"), unnamed)
+    unnamed = of_sample("Book::get", "Loose::get", "Loose::lend", "CountedClone::clone")
+    one, two = (counts.faults(bodies, part_in_sample, counter, gets, of_sample("Book", "Loose"), of_sample("Counted", "Served"), unnamed)
                 for counter in ("sample::counts_one", "sample::counts_two_at_once"))
     wrong = [] if any(fault.startswith("sample::counts_two_at_once does not add one") for fault in two) else ["counts_two_at_once: not said that it does not add one"]
     return wrong + differences(one, counts.FAULTS)

@@ -1,13 +1,11 @@
 -- Start, take and give back: from what the working function ensures of the needed part to what is promised of the whole. Assumes nothing.
 use Rattle.std.proofs.Common.{List, [], ◌++◌, ◌<◌, ◌∙◌, ◌≡◌, ◌≤◌, ap, arith, cond, drop, le-ltb, leb, length, ltb, ne_eqb, refl, subst, sym, take as front, ℕ}
 use Rattle.give_back.specs.Gave.{Form as GaveForm, Gave, given, kept}
-use Rattle.meaning.specs.Answers.{Answer, after, answer, done, bad_argument, give_back, insert_some, offset, or_refuse, place, refused, size_given, start, take, which}
+use Rattle.meaning.specs.Answers.{Answer, after, answer, done, bad_argument, give_back, insert_some, offset, or_refuse, place, refused, refused_at_once, size_given, start, take, which}
 use Rattle.meaning.specs.Blocks.{Live, arena, m_most}
 use Rattle.table.specs.Table.{Stands, need}
 use Rattle.take.specs.Took.{Form as TookForm, Took, nothing, taken}
-use Rattle.terms.specs.Answers.{number}
-use Rattle.terms.specs.declared.answers.Refusal.{Refusal}
-use Rattle.arena.proofs.Refused.{Promised, argument_at_once, no_argument, number_of, number_pos, same_offsets, size_admitted, told_at_once}
+use Rattle.arena.proofs.Refused.{Promised, argument_at_once, no_argument, number_of, same_offsets, size_admitted}
 use Rattle.arena.proofs.Served.{Lent, Settled, granted, refused_later, served, whole_stands}
 use Rattle.arena.specs.Promises.{Started, TakenInside}
 
@@ -17,9 +15,10 @@ result r e z = ap (λ (x : Answer). x.refusal) e ∙ z
 
 -- ---- start
 
--- a start that is refused says nothing of the table
-pub not_started : (m : ℕ) (t : List ℕ) {t' : List ℕ} (why : Refusal) → number why ≡ cond (ltb m_most m) 6 (cond (leb (need m) (length t)) 0 5) → Started m t t' (refused (number why))
-not_started m t why e z = absurd (omega (arith, told_at_once m t why e, number_pos why))
+-- a start that is refused for m or for the table says nothing of the table
+pub not_started : (m : ℕ) {n : ℕ} (t : List ℕ) {t' : List ℕ} (r : Answer) → n ≡ cond (ltb m_most m) 6 (cond (leb (need m) (length t)) 0 5) → (n ≡ 0 → ⊥) → Started m t t' r
+unfolding refused_at_once bad_argument
+not_started m t r e f z = absurd (f (e ∙ z))
 
 -- what start promises
 pub started : {m a k : ℕ} {t part p : List ℕ} (r : Answer) → Lent m a k t part → length p ≡ length part → r ≡ done → Stands a [] p → Promised m start t (p ++ drop k t) r × Started m t (p ++ drop k t) r

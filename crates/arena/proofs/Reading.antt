@@ -2,13 +2,12 @@
 use Rattle.std.proofs.Common.{false, true, true≢false, Bool, List, ◌<◌, ◌∙◌, ◌≡◌, ap, arith, cond, inl, inr, leb, length, ltb, refl, sym, take as front, ℕ}
 use Rattle.check_up.specs.Checked.{Checked, failed, passed}
 use Rattle.figures.specs.Summed.{Summed}
-use Rattle.meaning.specs.Answers.{Answer, after, bad_argument, check_up, figures, refused, sound, start, unsound, which}
+use Rattle.meaning.specs.Answers.{Answer, after, bad_argument, check_up, figures, refused, refused_at_once, sound, unsound, which}
 use Rattle.meaning.specs.Blocks.{m_most}
 use Rattle.table.specs.Table.{need}
 use Rattle.which.specs.Told.{Form, Told, nothing, told}
-use Rattle.terms.specs.Answers.{number, tells_verdict}
-use Rattle.terms.specs.declared.answers.Refusal.{Refusal}
-use Rattle.arena.proofs.Refused.{Promised, argument_at_once, at_once_alike, no_argument, not_admitted, number_of, number_pos, stands_suits, told_at_once}
+use Rattle.terms.specs.Answers.{tells_verdict}
+use Rattle.arena.proofs.Refused.{Promised, argument_at_once, no_argument, number_of, refused_at_once_lem, stands_suits}
 use Rattle.arena.proofs.Served.{Lent, Settled, granted, part_stands, refused_later, served_reading, settled_alone, settled_in_order, stands_part}
 use Rattle.arena.specs.Promises.{Exact, InOrder, RefusalAlone, ToldInside, at_once}
 
@@ -51,18 +50,18 @@ pub record Verdict (m : ℕ) (t : List ℕ) (r : Answer) : Type 0 where
   pub alone : RefusalAlone t t r
   pub exact : Exact m t r
 
--- a check-up that is refused is one of a table that stands for nothing
-pub check_refused : (m : ℕ) (t : List ℕ) (why : Refusal) → number why ≡ cond (ltb m_most m) 6 (cond (leb (need m) (length t)) 0 5) → Verdict m t (refused (number why))
-check_refused m t why e =
-    let w : Promised m check_up t t (refused (number why)) = not_admitted check_up t why (sym (no_argument m).2) e in
-    let z : number why ≡ at_once t m start = told_at_once m t why e in
-    let p : 0 < number why = number_pos why in record {
+-- a check-up that is refused for m or for the table is one of a table that stands for nothing
+pub check_refused : (m : ℕ) (t : List ℕ) (r : Answer) {n : ℕ} → n ≡ cond (ltb m_most m) 6 (cond (leb (need m) (length t)) 0 5) → (n ≡ 0 → ⊥) → r ≡ refused n → Verdict m t r
+unfolding refused_at_once bad_argument
+check_refused m t r {n} g f e =
+    let z : n ≡ at_once t m check_up = g in
+    let w : Promised m check_up t t r = refused_at_once_lem r z (omega arith) e in record {
       in_order = w.in_order;
       alone = w.alone;
       exact = record {
-        verdict = λ x. absurd (omega (arith, at_once_alike m t));
-        says_sound = λ x. absurd (omega (arith, ap (λ (v : Answer). v.refusal) x));
-        is_sound = λ L x. absurd (omega (arith, argument_at_once t start (stands_suits x), (no_argument m).0));
+        verdict = λ x. absurd (f (z ∙ x));
+        says_sound = λ x. absurd (f (sym (number_of r e) ∙ ap (λ (v : Answer). v.refusal) x));
+        is_sound = λ L x. absurd (f (z ∙ (argument_at_once t check_up (stands_suits x) ∙ (no_argument m).2)));
       };
     }
 

@@ -1,5 +1,6 @@
 -- What the requests promise of one that is refused at once: refusals 6 and 5, and those of the argument. Assumes nothing.
-use Rattle.std.proofs.Common.{List, ◌<◌, ◌∙◌, ◌≡◌, ◌≤◌, ap, arith, cond, le-leb, le-ltb, leb, length, ltb, refl, subst, sym, ℕ}
+use Rattle.std.proofs.Common.{List, ◌<◌, ◌∙◌, ◌≡◌, ◌≤◌, ap, arith, cond, le-leb, le-ltb, leb, length, ltb, ne_eqb, refl, subst, sym, ℕ}
+use Rattle.std.proofs.lemmas.Bool.{lt-leb}
 use Rattle.std.proofs.lemmas.Bool.Decides.{nat_tests}
 use Rattle.laws.proofs.AtOnce.{at_once_refused}
 use Rattle.laws.proofs.Exactly.{refusal_changes_nothing}
@@ -40,6 +41,15 @@ pub offset_admitted : (m o : ℕ) → bad_argument m (which o) ≡ 0 → o < are
 unfolding bad_argument
 offset_admitted m o e = grind (arith, nat_tests)
 
+-- and so the other way round: a size in between is not refused, nor is an offset inside the arena
+pub take_in_range : (m n : ℕ) → (n ≡ 0 → ⊥) → n ≤ arena m → bad_argument m (take n) ≡ 0
+unfolding bad_argument
+take_in_range m n z b = rw (ne_eqb n 0 z, le-ltb (arena m) n b) refl
+
+pub offset_inside : (m o : ℕ) → o < arena m → (bad_argument m (give_back o) ≡ 0) × (bad_argument m (which o) ≡ 0)
+unfolding bad_argument
+offset_inside m o b = rw (lt-leb (arena m) o b) (refl, refl)
+
 -- give back and which are refused for the same offsets
 pub same_offsets : (m o : ℕ) → bad_argument m (which o) ≡ bad_argument m (give_back o)
 unfolding bad_argument
@@ -70,7 +80,7 @@ pub number_of : (r : Answer) {n : ℕ} → r ≡ refused n → r.refusal ≡ n
 number_of r e = ap (λ (a : Answer). a.refusal) e
 
 -- what is promised of a refusal that comes at once
-refused_at_once_lem : {m n : ℕ} {q : Request} {t : List ℕ} (r : Answer) → n ≡ at_once t m q → 0 < n → r ≡ refused n → Promised m q t t r
+pub refused_at_once_lem : {m n : ℕ} {q : Request} {t : List ℕ} (r : Answer) → n ≡ at_once t m q → 0 < n → r ≡ refused n → Promised m q t t r
 refused_at_once_lem {m} {n} {q} {t} r g p e = record {
   in_order = record { told_at_once = λ x. e ∙ ap refused g; or_later = λ x. absurd (omega arith); formed = λ x. absurd (omega (arith, number_of r e)) };
   alone = record { values = λ x. e ∙ ap refused (sym (number_of r e)); cells = λ x. refl };

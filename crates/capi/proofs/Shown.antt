@@ -14,6 +14,24 @@ shown (take n) a = record { refusal = a.refusal; first = a.first; second = 0; th
 shown (give_back o) a = refused a.refusal
 shown (which o) a = record { refusal = a.refusal; first = a.first; second = a.second; third = 0 }
 
+-- the number is handed out
+pub shown_number : (q : Request) (a : Answer) → (shown q a).refusal ≡ a.refusal
+shown_number start a = refl
+shown_number figures a = refl
+shown_number check_up a = refl
+shown_number (take n) a = refl
+shown_number (give_back o) a = refl
+shown_number (which o) a = refl
+
+-- nothing is lost of a refusal
+pub shown_refused : (q : Request) (n : ℕ) → shown q (refused n) ≡ refused n
+shown_refused start n = refl
+shown_refused figures n = refl
+shown_refused check_up n = refl
+shown_refused (take k) n = refl
+shown_refused (give_back o) n = refl
+shown_refused (which o) n = refl
+
 -- nothing is lost of the meaning's answer
 pub shown_answer : (m : ℕ) (L : Live) (q : Request) → shown q (answer m L q) ≡ answer m L q
 unfolding answer or_refuse

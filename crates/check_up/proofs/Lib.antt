@@ -1,2 +1,3 @@
--- What the loops' verdicts mean.
+-- What the loops' verdicts mean, and the tests of a leaf and of a node by cases.
 pub mod Verdict
+pub mod Cases

@@ -15,11 +15,15 @@ use walks::{Shown, map_of};
 fn leaf_sound(cell: u64, bits: u64) -> bool
     ensures { result ≡ leaf_sound cell bits }
 {
+    if cell == vacant_cell(0) {
+        return bits == 0;
+    }
+    if cell == whole_cell() {
+        return bits == 0;
+    }
     match tag_of(cell) {
-        None => cell == vacant_cell(0) && bits == 0,
-        Some(Tag::Whole) => cell == whole_cell() && bits == 0,
         Some(Tag::Page(size)) => bits < all_open(size.slots()) && cell == page_cell(size, bits),
-        Some(Tag::Other(_)) => false,
+        _ => false,
     }
 }
 

@@ -1,5 +1,5 @@
 -- What a node of any table adds to the figures, by its cell as the code reads it. Assumes nothing.
-use Rattle.std.proofs.Common.{List, MatchOption, None, Option, Some, ◌*◌, ◌+◌, ◌-◌, ◌<◌, ◌^◌, ◌∙◌, ◌≡◌, ◌≢◌, ◌≤◌, ap, arith, false, get_or, lt-ltb, pow_mono, refl, sym, ℕ}
+use Rattle.std.proofs.Common.{List, MatchOption, None, Option, Some, ◌*◌, ◌+◌, ◌-◌, ◌<◌, ◌^◌, ◌∙◌, ◌≡◌, ◌≢◌, ◌≤◌, ap, arith, false, get_or, lt-ltb, pow_mono, refl, suc, sym, zero, ℕ}
 use Rattle.std.proofs.lemmas.Bool.{lt-leb}
 use Rattle.cells.specs.Cell.{open_count, tag_in, whole_tag}
 use Rattle.cells.specs.Tags.{Says}
@@ -9,6 +9,7 @@ use Rattle.meaning.specs.Blocks.{page_bytes, size_count, slots, small}
 use Rattle.table.proofs.NodeSums.{by_cut, by_else, by_whole, cut_live_le}
 use Rattle.table.specs.Sums.{cut_live, is_cut, node_held, node_live}
 use Rattle.terms.specs.declared.small.Size.{Size}
+use Rattle.trees.specs.Sums.{room_bytes}
 
 -- the live slots of a page are at most the page
 pub page_live_le : (c bits : ℕ) → small c * (slots c - open_count bits) ≤ page_bytes
@@ -16,6 +17,20 @@ unfolding cut_live
 page_live_le c bits =
     let z : c + 1 - 1 ≡ c = omega arith in
     rw z at (cut_live_le (c + 1) bits)
+
+-- the live slots of a page, by the size, the slots and the slots open that were counted
+pub page_live_is : (c bits size all idle : ℕ) → size ≡ small c → all ≡ slots c → idle ≡ open_count bits → size * (all - idle) ≡ small c * (slots c - open_count bits)
+page_live_is c bits size all idle e f g = rw (e, f, g) refl
+
+-- no tag names no size
+pub no_size : (tag : ℕ) → tag ≡ 0 → is_cut tag ≡ false
+unfolding is_cut
+no_size tag e = rw e refl
+
+-- nor does a tag past the last size
+pub past_sizes : (tag : ℕ) → size_count < tag → is_cut tag ≡ false
+unfolding is_cut
+past_sizes tag l = rw (lt-ltb 0 tag (omega arith), lt-leb tag size_count l) refl
 
 -- a tag of which it is not told that it is a large block's is not that
 not_whole : (n : ℕ) (told : Option Tag) → MatchOption told (n ≡ 0) (λ tag. Says tag n) → (told ≡ Some Whole → ⊥) → n ≢ whole_tag
@@ -25,42 +40,55 @@ not_whole n (Some Whole) says differs e = differs refl
 not_whole n (Some (Other x)) says differs e = omega arith
 
 -- nor does it name a size, where that is not told
-no_size : (h n : ℕ) (told : Option Tag) → MatchOption told (n ≡ 0) (λ tag. Says tag n) → ((size : Size) → told ≡ Some (Page size) → h ≡ 0 → ⊥) → h ≡ 0 → is_cut n ≡ false
+size_untold : (h n : ℕ) (told : Option Tag) → MatchOption told (n ≡ 0) (λ tag. Says tag n) → ((size : Size) → told ≡ Some (Page size) → h ≡ 0 → ⊥) → h ≡ 0 → is_cut n ≡ false
 unfolding is_cut
-no_size h n None says differs z = rw says
-no_size h n (Some (Page size)) says differs z = absurd (differs size refl z)
-no_size h n (Some Whole) says differs z = rw says
-no_size h n (Some (Other x)) says differs z = rw (lt-ltb 0 n (omega arith), lt-leb n size_count (omega arith))
+size_untold h n None says differs z = no_size n says
+size_untold h n (Some (Page size)) says differs z = absurd (differs size refl z)
+size_untold h n (Some Whole) says differs z = past_sizes n (omega arith)
+size_untold h n (Some (Other x)) says differs z = past_sizes n (omega arith)
 
--- ---- a node of height h whose cell was read
-module _ (t : List ℕ) (pages h v cell : ℕ) (read : cell ≡ get_or t v 0) where
+-- ---- a node of height h whose cell was read, and its tag
+module _ (t : List ℕ) (pages h v cell tag : ℕ) (read : cell ≡ get_or t v 0) (tagged : tag ≡ tag_in cell) where
   -- the tag is that of the table's cell
-  same_tag : tag_in (get_or t v 0) ≡ tag_in cell
-  same_tag = ap (λ (x : ℕ). tag_in x) (sym read)
+  same_tag : tag_in (get_or t v 0) ≡ tag
+  same_tag = ap (λ (x : ℕ). tag_in x) (sym read) ∙ sym tagged
 
   -- a large block
-  pub node_whole : Says Whole (tag_in cell) → (page_bytes * 2 ^ h ≡ node_live t pages h v) × (2 ^ h ≡ node_held t h v)
+  pub node_whole : tag ≡ whole_tag → (page_bytes * 2 ^ h ≡ node_live t pages h v) × (2 ^ h ≡ node_held t h v)
   unfolding node_live node_held
   node_whole e =
       let g : tag_in (get_or t v 0) ≡ whole_tag = same_tag ∙ e in
       (sym (by_whole h _ _ _ g), sym (by_whole h _ _ _ g))
 
-  -- any other node
-  pub node_none : (told : Option Tag) → MatchOption told (tag_in cell ≡ 0) (λ tag. Says tag (tag_in cell)) → (told ≡ Some Whole → ⊥) → ((size : Size) → told ≡ Some (Page size) → h ≡ 0 → ⊥) → (0 ≡ node_live t pages h v) × (0 ≡ node_held t h v)
+  -- a node that is neither a large block nor a page that serves a size
+  pub node_none : tag ≢ whole_tag → (h ≡ 0 → is_cut tag ≡ false) → (0 ≡ node_live t pages h v) × (0 ≡ node_held t h v)
   unfolding node_live node_held
-  node_none told says n z =
-      let a = not_whole (tag_in cell) told says n in
-      let b = no_size h (tag_in cell) told says z in
-      rw same_tag (sym (by_else h (tag_in cell) _ _ a b), sym (by_else h (tag_in cell) _ _ a b))
+  node_none n z = rw same_tag (sym (by_else h tag _ _ n z), sym (by_else h tag _ _ n z))
 
   -- a page that serves a size
-  pub node_cut : (size : Size) (bits : ℕ) → h ≡ 0 → Says (Page size) (tag_in cell) → bits ≡ get_or t (v + pages) 0 → (small size.number * (slots size.number - open_count bits) ≡ node_live t pages h v) × (1 ≡ node_held t h v)
+  pub node_cut : (bits : ℕ) → h ≡ 0 → 0 < tag → tag ≤ size_count → bits ≡ get_or t (v + pages) 0 → (small (tag - 1) * (slots (tag - 1) - open_count bits) ≡ node_live t pages h v) × (1 ≡ node_held t h v)
   unfolding node_live node_held cut_live
-  node_cut size bits e says b =
-      let g : tag_in (get_or t v 0) ≡ size.number + 1 = same_tag ∙ says in
-      let z : size.number + 1 - 1 ≡ size.number = omega arith in
+  node_cut bits e p l b = rw (same_tag, e, b) (sym (by_cut tag _ _ p l), sym (by_cut tag _ _ p l))
+
+-- ---- the same, by what is told of the tag
+module _ (t : List ℕ) (pages h v cell : ℕ) (read : cell ≡ get_or t v 0) where
+  -- a node of which neither is told
+  pub node_untold : (told : Option Tag) → MatchOption told (tag_in cell ≡ 0) (λ tag. Says tag (tag_in cell)) → (told ≡ Some Whole → ⊥) → ((size : Size) → told ≡ Some (Page size) → h ≡ 0 → ⊥) → (0 ≡ node_live t pages h v) × (0 ≡ node_held t h v)
+  node_untold told says n z = node_none t pages h v cell (tag_in cell) read refl (not_whole (tag_in cell) told says n) (size_untold h (tag_in cell) told says z)
+
+  -- a page of which its size is told
+  pub node_page : (size : Size) (bits : ℕ) → h ≡ 0 → Says (Page size) (tag_in cell) → bits ≡ get_or t (v + pages) 0 → (small size.number * (slots size.number - open_count bits) ≡ node_live t pages h v) × (1 ≡ node_held t h v)
+  node_page size bits e says b =
+      let n : tag_in cell ≡ size.number + 1 = says in
       let l = size.in_range in
-      rw (g, e, b, z) (sym (by_cut (size.number + 1) _ _ (omega arith) (omega arith)), sym (by_cut (size.number + 1) _ _ (omega arith) (omega arith)))
+      let z : tag_in cell - 1 ≡ size.number = omega arith in
+      rw z at (node_cut t pages h v cell (tag_in cell) read refl bits e (omega arith) (omega arith) b)
+
+-- the bytes of a room that is not 0: a power of two pages
+pub room_is : (room : ℕ) → 0 < room → room_bytes room ≡ page_bytes * 2 ^ (room - 1)
+unfolding room_bytes
+room_is zero l = absurd (omega arith)
+room_is (suc k) l = let z : suc k - 1 ≡ k = omega arith in rw z refl
 
 -- a node of any height stands among the cells of the tree
 pub node_below : (m h v : ℕ) → v < 2 * 2 ^ (m - h) → v < 2 * 2 ^ m

@@ -92,7 +92,7 @@ fn level_sums(book: &mut Shown<'_>, h: u64) -> Sums
 }
 
 // What all nodes add.
-#[tactic(auto, using(table::proofs::LevelSums::levels_sum_none, crate::proofs::Levels::levels_next))]
+#[tactic(auto, using(table::proofs::LevelSums::levels_sum_none, crate::proofs::Levels::levels_next_power))]
 fn all_sums(book: &mut Shown<'_>) -> Sums
     requires few_spent { spent_of book.old < 2 ^ 20 }
     ensures kept { IsKept book.old book.new }

@@ -5,6 +5,7 @@ use Rattle.std.proofs.lemmas.Bool.{eqb-false}
 use Rattle.cells.specs.Cell.{packed, tag_in}
 use Rattle.digits.specs.Digits.{bit_at, ones}
 use Rattle.laws.proofs.Logic.{le_or_lt, split}
+use Rattle.laws.proofs.Sizes.{slots_most}
 use Rattle.meaning.specs.Answers.{done, refused, remove, starts_at}
 use Rattle.meaning.specs.Blocks.{Live, arena, page_bytes, size_count, slot, slots, small}
 use Rattle.meaning.specs.Search.{find}
@@ -21,6 +22,10 @@ use Rattle.give_back.specs.Gave.{Gave}
 -- byte o lies its rest past the start of its slot
 slot_start : (c o : ℕ) → o ≡ (slot c (o / page_bytes) (slot_of c o)).start + o % page_bytes % small c
 slot_start c o = omega (arith, div-add-mod' (o % page_bytes) (small c))
+
+-- a slot's number is a digit of a bitmap
+pub slot_low : (c n i : ℕ) → n ≡ slots c → i < n → i < 64
+slot_low c n i e l = omega (arith, slots_most c)
 
 module _ (m o leaf c : ℕ) (t : List ℕ) (inside : o < arena m) (place : leaf ≡ 2 ^ m + o / page_bytes) (c< : c < size_count)
     (found : 0 ≡ located (suc m) t (2 ^ m + o / page_bytes) 0) (tag : tag_in (get_or t (2 ^ m + o / page_bytes) 0) ≡ c + 1)

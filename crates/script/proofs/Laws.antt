@@ -33,7 +33,7 @@ unfolding number_of
 is_number s v some p e h = simp (lt-ltb 0 (length s) some, p, e, lt-ltb v (2 ^ 64) h)
 
 -- a word with a byte that is no digit
-not_plain : (s : List ℕ) → plain s ≡ false → number_of s ≡ None
+pub not_plain : (s : List ℕ) → plain s ≡ false → number_of s ≡ None
 unfolding number_of
 not_plain s p = rw p (bad (ltb 0 (length s)))
 
@@ -129,6 +129,28 @@ value_end v (a ∷ s) b = value_end (10 * v + (a - 48)) s b
 digit_of : (d : ℕ) → d < 10 → is_digit (48 + d) ≡ true
 digit_of d h = simp (le-ltb (48 + d) 48 (omega arith), lt-ltb (48 + d) 58 (omega arith))
 
+-- the last k digits of a number: all of them digits, as many as were asked for, and worth the number where they are enough
+printed_plain : (k n : ℕ) → plain (last_digits k n) ≡ true
+unfolding plain
+printed_plain zero n = refl
+printed_plain (suc k) n =
+    plain_end (last_digits k (n / 10)) (48 + n % 10) (printed_plain k (n / 10)) (digit_of (n % 10) (omega arith))
+
+printed_value : (k n : ℕ) → n < 10 ^ k → value (last_digits k n) ≡ n
+unfolding value_from
+printed_value zero n h = omega arith
+printed_value (suc k) n h =
+    value_end 0 (last_digits k (n / 10)) (48 + n % 10) ∙ omega (arith, printed_value k (n / 10) (omega (arith, h, pow-succ' 10 k)))
+
+printed_length : (k n : ℕ) → length (last_digits k n) ≡ k
+printed_length zero n = refl
+printed_length (suc k) n = length-append (last_digits k (n / 10)) ((48 + n % 10) ∷ []) ∙ omega (arith, printed_length k (n / 10))
+
+-- enough digits read back as the number
+pub reads_back : (k n : ℕ) → 0 < k → n < 10 ^ k → n < 2 ^ 64 → number_of (last_digits k n) ≡ Some n
+reads_back k n some enough h =
+    is_number (last_digits k n) n (omega (arith, printed_length k n)) (printed_plain k n) (printed_value k n enough) h
+
 -- the digits that `{}` writes of a number: at least one, all of them digits, and worth the number
 record Prints (n : ℕ) (s : List ℕ) : Type 0 where
   some : 0 < length s
@@ -157,11 +179,11 @@ exact (suc (suc j)) n some enough needed h =
     let tens : 10 ≤ n = omega (arith, least, one-le-pow j 10 (omega arith)) in
     rw (decimal_step n tens h) (ap (λ (l : List ℕ). l ++ ((48 + n % 10) ∷ [])) (exact (suc j) (n / 10) (omega arith) (omega (arith, enough, pow-succ' 10 (suc j))) (λ (more : 1 < suc j). rw sub-one (omega (arith, least))) (omega arith)))
 
--- they read back as the number
-pub reads_back : (k n : ℕ) → 0 < k → n < 10 ^ k → (1 < k → 10 ^ (k - 1) ≤ n) → n < 2 ^ 64 → number_of (last_digits k n) ≡ Some n
-reads_back k n some enough needed h =
+-- and what `{}` writes, which is what the player prints, reads back as the number
+pub displayed_reads_back : (n : ℕ) → n < 2 ^ 64 → number_of (decimal n) ≡ Some n
+displayed_reads_back n h =
     let p = prints n h in
-    rw (exact k n some enough needed h) (is_number (decimal n) n p.some p.digits p.worth h)
+    is_number (decimal n) n p.some p.digits p.worth h
 
 -- those laws, for the function that prints
 pub ruleset printing = (exact, reads_back)

@@ -1,3 +1,3 @@
 -- What the proofs of `script` share, and worked examples.
-mod Laws
+pub mod Laws
 mod Examples

@@ -1,6 +1,8 @@
 -- Which lists of numbers are whole requests of known kinds, two numbers at a time; and when they can be served. Assumes nothing.
-use Rattle.std.proofs.Common.{Bool, List, [], ◌%◌, ◌*◌, ◌+◌, ◌/◌, ◌<◌, ◌∷◌, ◌≡◌, ◌≢◌, ◌≤◌, arith, eqb, eqb-true, false, get_or, leb, leb-true, length, ltb, refl, suc, true, zero, ℕ, ⊎_elim}
-use Rattle.std.proofs.lemmas.Bool.{eqb-false}
+use Rattle.std.proofs.Common.{Bool, List, [], ◌%◌, ◌&&◌, ◌*◌, ◌+◌, ◌/◌, ◌<◌, ◌∙◌, ◌∷◌, ◌≡◌, ◌≢◌, ◌≤◌, arith, drop, eqb, eqb-true, false, get_or, le-leb, le-ltb, leb, leb-true, length, lt-ltb, ltb, refl, suc, true, zero, ℕ, ⊎_elim}
+use Rattle.std.proofs.Math.Numerals.{add-two}
+use Rattle.std.proofs.Math.Seq.{drop-length}
+use Rattle.std.proofs.lemmas.Bool.{eqb-false, lt-leb}
 use Rattle.std.specs.List.{list_all}
 use Rattle.std.specs.Simd.{first_chunks}
 use Rattle.laws.proofs.Logic.{and_false, and_left, and_right, contra, split}
@@ -16,6 +18,30 @@ known_odd (k ∷ x ∷ xs) e = rw (known_odd xs (omega arith)) (and_false (ltb k
 -- known requests are whole
 pub known_even : (xs : List ℕ) → known xs ≡ true → length xs % 2 ≡ 0
 known_even xs e = ⊎_elim (λ t. eqb-true (length xs % 2) 0 t) (λ t. contra e (known_odd xs (eqb-false (length xs % 2) 0 t))) (split (eqb (length xs % 2) 0))
+
+-- what is known from a place on: the kind there, and the rest
+known_step : (i : ℕ) (xs : List ℕ) → i + 2 ≤ length xs → known (drop i xs) ≡ ltb (get_or xs i 0) kind_count && known (drop (i + 2) xs)
+unfolding known
+known_step i xs l = rw add-two (go i xs (omega arith))
+  where
+    go : (i : ℕ) (xs : List ℕ) → suc (suc i) ≤ length xs → known (drop i xs) ≡ ltb (get_or xs i 0) kind_count && known (drop (suc (suc i)) xs)
+    go i [] l = absurd (omega arith)
+    go i (k ∷ []) l = absurd (omega arith)
+    go zero (k ∷ x ∷ xs) l = refl
+    go (suc i) (k ∷ x ∷ xs) l = go i (x ∷ xs) (omega arith)
+
+-- a known kind: the rest decides
+pub known_on : (i : ℕ) (xs : List ℕ) → i + 2 ≤ length xs → get_or xs i 0 < kind_count → known (drop i xs) ≡ known (drop (i + 2) xs)
+known_on i xs l k = known_step i xs l ∙ rw (lt-ltb (get_or xs i 0) kind_count k)
+
+-- a kind that is not known
+pub known_stop : (i : ℕ) (xs : List ℕ) → i + 2 ≤ length xs → kind_count ≤ get_or xs i 0 → known (drop i xs) ≡ false
+known_stop i xs l k = known_step i xs l ∙ rw (le-ltb (get_or xs i 0) kind_count k)
+
+-- nothing is left
+pub known_end : (xs : List ℕ) → known (drop (length xs) xs) ≡ true
+unfolding known
+known_end xs = rw drop-length
 
 -- the kind of a pair of numbers is known
 abbrev pub kind_known : List ℕ → Bool
@@ -53,6 +79,23 @@ pair_at xs i e l = rw e (go i (length xs / 2) xs l (omega arith))
         let one : 2 * suc i ≡ suc (suc (2 * i)) = omega arith in
         let two : 2 * suc i + 1 ≡ suc (suc (2 * i + 1)) = omega arith in
         rw (two, one) (go i k xs (omega arith) (omega arith))
+
+-- ---- requests that can be served: three tests
+
+-- a kind is not known
+pub servable_unknown : (xs : List ℕ) (places : ℕ) → known xs ≡ false → servable xs places ≡ false
+unfolding servable
+servable_unknown xs places e = rw e
+
+-- too many
+pub servable_many : (xs : List ℕ) (places : ℕ) → 2 * requests_most < length xs → servable xs places ≡ false
+unfolding servable
+servable_many xs places l = rw (lt-leb (length xs) (2 * requests_most) l) (and_false (known xs))
+
+-- or the places decide
+pub servable_places : (xs : List ℕ) (places : ℕ) → known xs ≡ true → length xs ≤ 2 * requests_most → servable xs places ≡ eqb places (2 * length xs)
+unfolding servable
+servable_places xs places e l = rw (e, le-leb (length xs) (2 * requests_most) l)
 
 -- what is known of requests that can be served
 pub record Servable (xs : List ℕ) (places : ℕ) : Type 0 where

@@ -1,9 +1,10 @@
 -- What the arena promises of each request is what serving one request promises. Assumes nothing.
-use Rattle.std.proofs.Common.{Bool, List, ◌<◌, ◌∙◌, ◌≡◌, ◌≤◌, ap, arith, cond, false, le-leb, le-ltb, leb, length, lt-ltb, ltb, pow_mono, refl, true, ℕ}
+use Rattle.std.proofs.Common.{Bool, List, ◌<◌, ◌∙◌, ◌≡◌, ◌≤◌, ap, arith, cond, false, le-leb, le-ltb, leb, length, lt-ltb, ltb, pow_mono, refl, suc, true, zero, ℕ}
 use Rattle.arena.specs.Promises.{Exact, InOrder, Kept, RefusalAlone, Right, Started, at_once}
 use Rattle.meaning.specs.Answers.{Answer, Request, after, answer, bad_argument, check_up, figures, give_back, refused, refused_at_once, start, take, which}
 use Rattle.meaning.specs.Blocks.{Live, m_most}
 use Rattle.table.specs.Table.{Stands, need}
+use Rattle.sequence.specs.Numbers.{as_request}
 use Rattle.sequence.specs.Serving.{Own, Promised, cost_most, cost_of}
 
 -- where even start is refused, every request is, with the same number
@@ -84,6 +85,22 @@ cost_most_lem {m} (which o) l = omega arith
 cost_most_lem {m} figures l = omega (arith, pow_mono {i = m} {j = m_most} l)
 cost_most_lem {m} check_up l = omega (arith, pow_mono {i = m} {j = m_most} l)
 
+-- ---- the request of a kind
+
+-- the last kind of all
+pub asked_check_up : (k n : ℕ) → 5 ≤ k → as_request k n ≡ check_up
+unfolding as_request
+asked_check_up zero n l = absurd (omega arith)
+asked_check_up (suc zero) n l = absurd (omega arith)
+asked_check_up (suc (suc zero)) n l = absurd (omega arith)
+asked_check_up (suc (suc (suc zero))) n l = absurd (omega arith)
+asked_check_up (suc (suc (suc (suc zero)))) n l = absurd (omega arith)
+asked_check_up (suc (suc (suc (suc (suc k))))) n l = refl
+
 -- what is kept twice is kept
 pub kept_on : {m : ℕ} {t₀ t t' : List ℕ} → Kept m t₀ t → Kept m t t' → Kept m t₀ t'
 kept_on p q = record { long = q.long ∙ p.long; beyond = q.beyond ∙ p.beyond }
+
+-- what is promised of a request is promised of its kind and argument, and it costs little
+pub one_of_kind : {m : ℕ} {q : Request} {t t' : List ℕ} {r : Answer} (k n spent : ℕ) → as_request k n ≡ q → m ≤ m_most → spent ≤ cost_of m q → Promised m q t t' r → Promised m (as_request k n) t t' r × ((spent ≤ cost_of m (as_request k n)) × (spent ≤ cost_most))
+one_of_kind {m} {q} k n spent e l c one = rw e (one, (c, omega (arith, cost_most_lem q l)))

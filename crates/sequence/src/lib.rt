@@ -1,7 +1,7 @@
 // Any number of requests, one after the other, and two units side by side.
 #![tactic(auto)]
 
-ghost use Rattle.std.specs.Prelude.{◌≡◌, ◌&&◌, ◌++◌, ◌*◌, ◌+◌, ◌<◌, false, true, MatchOption, ◌≤◌, get_or, is_some, length, take as take_front, ⊤};
+ghost use Rattle.std.specs.Prelude.{◌≡◌, ◌&&◌, ◌++◌, ◌*◌, ◌+◌, ◌<◌, false, true, ◌≤◌, drop, get_or, is_ok, length, take as take_front};
 ghost use Rattle.meaning.specs.Answers.{start as ask_start};
 ghost use Rattle.meaning.specs.Blocks.{Live};
 ghost use Rattle.table.specs.Table.{Stands};
@@ -79,22 +79,37 @@ fn store(answers: &mut [u64], i: usize, numbers: [u64; 4])
     requires { 4 * i + 4 ≤ length answers.old }
     ensures long { length answers.new ≡ length answers.old }
     ensures written { take_front (4 * i + 4) answers.new ≡ take_front (4 * i) answers.old ++ numbers }
+    ensures beyond { drop (4 * i + 4) answers.new ≡ drop (4 * i + 4) answers.old }
 {
     answers[4 * i..4 * i + 4].copy_from_slice(&numbers);
 }
 
-// Serves requests, two numbers each, into answers, four numbers each, and says how many accesses to the table that took. Where a kind is not known or
-// the lists do not fit each other nothing is served and nothing changes.
-pub fn serve(t: &mut [u64], m: u64, requests: &[u64], answers: &mut [u64]) -> Option<u64>
-    ensures whole_or_not { is_some result ≡ servable requests.now (length answers.old) }
-    ensures refusal_changes_nothing { is_some result ≡ false → (t.new ≡ t.old) × (answers.new ≡ answers.old) }
+// The lists do not fit each other, or a kind is not known.
+#[derive(Clone, Copy)]
+pub struct NotServed;
+
+// Whether the requests were served, and the accesses to the table that it took.
+#[derive(Clone, Copy)]
+pub struct Served {
+    pub answer: Result<(), NotServed>,
+    pub spent: u64,
+}
+
+// Serves requests, two numbers each, into answers, four numbers each. Where a kind is not known or the lists do not fit each other nothing is served
+// and nothing changes.
+pub fn serve(t: &mut [u64], m: u64, requests: &[u64], answers: &mut [u64]) -> Served
+    ensures whole_or_not { is_ok result.answer ≡ servable requests.now (length answers.old) }
+    ensures refusal_changes_nothing { is_ok result.answer ≡ false → (t.new ≡ t.old) × (answers.new ≡ answers.old) }
     ensures stays_inside { Kept m t.old t.new × (length answers.new ≡ length answers.old) }
-    ensures ends_within { MatchOption result ⊤ (λ spent. spent ≤ cost_all m (requests_of requests.now)) }
-    ensures right { is_some result ≡ true → Serves m requests.now t.old t.new answers.new }
-    ensures one_by_one { is_some result ≡ true → InTurn m requests.now t.old t.new answers.new }
+    ensures ends_within { result.spent ≤ cost_all m (requests_of requests.now) }
+    ensures right { is_ok result.answer ≡ true → Serves m requests.now t.old t.new answers.new }
+    ensures one_by_one { is_ok result.answer ≡ true → InTurn m requests.now t.old t.new answers.new }
 {
     if !can_serve(requests, answers.len()) {
-        return None;
+        return Served {
+            answer: Err(NotServed),
+            spent: 0,
+        };
     }
     let mut spent = 0;
     for i in 0..requests.len() / 2 {
@@ -102,7 +117,10 @@ pub fn serve(t: &mut [u64], m: u64, requests: &[u64], answers: &mut [u64]) -> Op
         store(answers, i, numbers);
         spent += accesses;
     }
-    Some(spent)
+    Served {
+        answer: Ok(()),
+        spent,
+    }
 }
 
 // Serves the same requests to two units, each with its own table and its own answers. Where one of them can not be served, nothing changes.

@@ -1,9 +1,9 @@
 -- What a take or a give back of a slot stores makes the table stand for the live blocks afterwards. Assumes nothing.
-use Rattle.std.proofs.Common.{List, ◌+◌, ◌-◌, ◌<◌, ◌^◌, ◌≡◌, ◌≢◌, arith, cond, eqb, false, get_or, ne_eqb, pow_mono, pow_pos, refl, set, subst, true, ℕ}
+use Rattle.std.proofs.Common.{List, ◌+◌, ◌-◌, ◌<◌, ◌^◌, ◌∙◌, ◌≡◌, ◌≢◌, ap, arith, cond, eqb, false, get_or, ne_eqb, not, pow_mono, pow_pos, refl, set, subst, true, ℕ}
 use Rattle.std.proofs.Math.Option.{some}
 use Rattle.cells.specs.Cell.{packed}
-use Rattle.digits.proofs.Digits.{set_lt}
-use Rattle.digits.specs.Digits.{ones}
+use Rattle.digits.proofs.Digits.{bit_complement, more_same, set_lt}
+use Rattle.digits.specs.Digits.{bit_at, ones}
 use Rattle.laws.proofs.Sizes.{slots_two}
 use Rattle.meaning.specs.Answers.{clear, free, insert, remove, serves, starts_at}
 use Rattle.meaning.specs.Blocks.{Live, size_count, slot, slots, small}
@@ -43,6 +43,14 @@ module _ {m : ℕ} {L : Live} {t : List ℕ} (s : Stands m L t) (c q i w : ℕ) 
   there : Encodes t (2 ^ m) w 0 (cut c part.bits)
   there = page_there s q w node part.step
 
+  -- the page's bitmap has no digit past its slots
+  pub served_bits : get_or t (w + 2 ^ m) 0 < 2 ^ slots c
+  served_bits = omega (arith, there.3, pow_pos (slots c))
+
+  -- and has the digit of the slot
+  pub served_digit : bit_at i (get_or t (w + 2 ^ m) 0) ≡ true
+  served_digit = ap (bit_at i) there.3 ∙ (bit_complement (slots c) i part.bits i< there.1.2 ∙ ap not part.not_taken)
+
   -- the digit cleared, and the page's cell made anew
   pub slot_taken : Stands m (insert (slot c q i) L) (climbed m (set (set t (w + 2 ^ m) (get_or t (w + 2 ^ m) 0 - 2 ^ i)) w (packed 0 (c + 1) (cond (eqb (get_or t (w + 2 ^ m) 0 - 2 ^ i) 0) 0 (2 ^ c)))) w 0)
   slot_taken =
@@ -74,6 +82,14 @@ module _ {m : ℕ} {L : Live} {t : List ℕ} (s : Stands m L t) (c q i w : ℕ) 
 
   held : Encodes t (2 ^ m) w 0 (cut c (given.bits + 2 ^ i))
   held = page_there s q w node given.step
+
+  -- with the slot's digit the bitmap has no digit past its slots
+  pub live_bits : get_or t (w + 2 ^ m) 0 + 2 ^ i < 2 ^ slots c
+  live_bits = omega (arith, held.3, held.1)
+
+  -- and it does not have the slot's digit
+  pub live_digit : bit_at i (get_or t (w + 2 ^ m) 0) ≡ false
+  live_digit = ap (bit_at i) held.3 ∙ (bit_complement (slots c) i (given.bits + 2 ^ i) i< held.1.2 ∙ ap not (more_same i given.bits given.not_left))
 
   -- the page with N in its place
   given_step : {N : Tree} → leaf_of c given.bits ≡ N → Step m m q s.tree (cut c (given.bits + 2 ^ i)) N (remove (slot c q i).start (blocks m 0 s.tree))

@@ -1,5 +1,5 @@
--- The way down: on any table whatever, turn by turn; on a table that holds a tree it finds the leftmost. Assumes nothing.
-use Rattle.std.proofs.Common.{Bool, List, ◌*◌, ◌+◌, ◌-◌, ◌<◌, ◌^◌, ◌∙◌, ◌≡◌, ◌≤◌, add-mul, add-one, ap, arith, cond, false, get_or, ltb, mul_assoc, mul_comm, pow_mono, refl, suc, sym, true, zero, ℕ}
+-- The way down: on any table whatever it stays below its node; on a table that holds a tree it finds the leftmost. Assumes nothing.
+use Rattle.std.proofs.Common.{Bool, List, ◌*◌, ◌+◌, ◌-◌, ◌<◌, ◌^◌, ◌∙◌, ◌≡◌, ◌≤◌, add-mul, add-one, ap, arith, cond, false, get_or, ltb, mul_assoc, mul_comm, mul-le-mul_left, pow_mono, pow-suc, refl, suc, sym, true, zero, ℕ}
 use Rattle.std.proofs.Math.Nat.{pow-succ'}
 use Rattle.std.proofs.Math.Option.{Option, none, some}
 use Rattle.cells.specs.Cell.{has_room_for, has_size}
@@ -24,6 +24,34 @@ over_zero n = omega (arith, over_add n 0)
 
 -- ---- on any table
 
+-- either half of a node is one of its two
+turned_from : (x : Bool) (v : ℕ) → 2 * v ≤ turned x v
+turned_from true v = omega arith
+turned_from false v = omega arith
+
+turned_to : (x : Bool) (v : ℕ) → turned x v + 1 ≤ 2 * (v + 1)
+turned_to true v = omega arith
+turned_to false v = omega arith
+
+-- one level more is twice as many nodes
+two_levels : (n v : ℕ) → 2 ^ suc n * v ≡ 2 ^ n * (2 * v)
+two_levels n v = ap (λ (x : ℕ). x * v) (pow-suc 2 n) ∙ mul_assoc (2 ^ n) 2 v
+
+-- the nodes n levels below the node v are those from 2 ^ n * v on, 2 ^ n of them
+pub descended_from : (f : ℕ → Bool) (n : ℕ) (t : List ℕ) (v : ℕ) → 2 ^ n * v ≤ descended f n t v
+descended_from f zero t v = omega arith
+descended_from f (suc n) t v = omega (arith, two_levels n v, mul-le-mul_left (2 ^ n) (turned_from (f (get_or t (2 * v) 0)) v), descended_from f n t (turned (f (get_or t (2 * v) 0)) v))
+
+pub descended_to : (f : ℕ → Bool) (n : ℕ) (t : List ℕ) (v : ℕ) → descended f n t v < 2 ^ n * (v + 1)
+descended_to f zero t v = omega arith
+descended_to f (suc n) t v = omega (arith, two_levels n (v + 1), mul-le-mul_left (2 ^ n) (turned_to (f (get_or t (2 * v) 0)) v), descended_to f n t (turned (f (get_or t (2 * v) 0)) v))
+
+-- before the first turn of a loop over n levels
+pub descended_begin : (f : ℕ → Bool) (n v : ℕ) (t : List ℕ) → descended f (n - 0) t v ≡ descended f n t v
+descended_begin f n v t =
+    let q : n - 0 ≡ n = omega arith in
+    rw q refl
+
 -- one turn of a loop that has gone d of n levels, by what the test says
 descended_turn : (f : ℕ → Bool) (n d v : ℕ) (t : List ℕ) (x : Bool) → d < n → f (get_or t (2 * v) 0) ≡ x → descended f (n - (d + 1)) t (turned x v) ≡ descended f (n - d) t v
 descended_turn f n d v t x l p =
@@ -36,6 +64,12 @@ descended_left f n d v t l p = descended_turn f n d v t true l p
 
 pub descended_right : (f : ℕ → Bool) (n d v : ℕ) (t : List ℕ) → d < n → f (get_or t (2 * v) 0) ≡ false → descended f (n - (d + 1)) t (2 * v + 1) ≡ descended f (n - d) t v
 descended_right f n d v t l p = descended_turn f n d v t false l p
+
+-- after the last turn
+pub descended_end : (f : ℕ → Bool) (n d v w : ℕ) (t : List ℕ) → n ≤ d → descended f (n - d) t v ≡ w → v ≡ w
+descended_end f n d v w t l p =
+    let q : n - d ≡ 0 = omega arith in
+    rw q at p
 
 -- the next power, and where it stands below the last
 pub twice : (d : ℕ) → 2 ^ (d + 1) ≡ 2 * 2 ^ d

@@ -1,7 +1,8 @@
--- The way up to the first tag: on any table whatever, turn by turn; on a table that holds a tree it finds what stands at a page. Assumes nothing.
-use Rattle.std.proofs.Common.{List, ◌%◌, ◌*◌, ◌+◌, ◌-◌, ◌/◌, ◌<◌, ◌^◌, ◌∙◌, ◌≡◌, ◌≢◌, ◌≤◌, ◌⊎◌, add-one, ap, arith, div-lt_iff_lt-mul, eq-eqb, get_or, inl, inr, le-div_iff_mul-le, mul_assoc, ne_eqb, pow_pos, refl, shr-shr, suc, sym, zero, ℕ, ⊎_elim}
+-- The way up to the first tag: on any table whatever it stays within its levels; on a table that holds a tree it finds what stands at a page. Assumes nothing.
+use Rattle.std.proofs.Common.{Bool, List, ◌%◌, ◌*◌, ◌+◌, ◌-◌, ◌/◌, ◌<◌, ◌^◌, ◌∙◌, ◌≡◌, ◌≢◌, ◌≤◌, ◌⊎◌, add-one, ap, arith, cond, div-lt_iff_lt-mul, eq-eqb, eqb, false, get_or, inl, inr, le-div_iff_mul-le, mul_assoc, ne_eqb, pow_pos, refl, shr-shr, suc, sym, true, zero, ℕ, ⊎_elim}
+use Rattle.std.proofs.lemmas.Bool.{eqb-false}
 use Rattle.cells.specs.Cell.{tag_in}
-use Rattle.laws.proofs.Logic.{le_or_lt}
+use Rattle.laws.proofs.Logic.{le_or_lt, split}
 use Rattle.trees.proofs.Runs.{span}
 use Rattle.trees.specs.Change.{Change, here, left, right}
 use Rattle.trees.specs.Tree.{Tree, empty, pair, vacant, whole}
@@ -41,12 +42,56 @@ module _ (t : List ℕ) where
   pub located_stop : (n v h : ℕ) → tag_in (get_or t v 0) ≢ 0 → located (suc n) t v h ≡ h
   located_stop n v h g = rw (ne_eqb (tag_in (get_or t v 0)) 0 g) refl
 
-  -- one turn of the loop at the height h of m: past a node without a tag, at a node with one
+  -- before the first turn of a loop over the heights 0 to m
+  pub located_begin : (m v : ℕ) → located (m + 1 - 0) t v 0 ≡ located (suc m) t v 0
+  located_begin m v =
+      let n : m + 1 - 0 ≡ suc m = omega arith in
+      rw n refl
+
+  -- one turn of the loop at the height h of m: past a node without a tag, at a node with one, and after the last
   pub located_turn : (m v h : ℕ) → h ≤ m → tag_in (get_or t v 0) ≡ 0 → located (m + 1 - h) t v h ≡ located (m + 1 - (h + 1)) t (v / 2) (h + 1)
   located_turn m v h l g = grind arith
 
   pub located_here : (m v h : ℕ) → h ≤ m → tag_in (get_or t v 0) ≢ 0 → located (m + 1 - h) t v h ≡ h
   located_here m v h l g = grind arith
+
+  pub located_end : (m v h : ℕ) → m < h → located (m + 1 - h) t v h ≡ h
+  located_end m v h l =
+      let n : m + 1 - h ≡ 0 = omega arith in
+      rw n refl
+
+  -- the height found is one of the n from h on, or h + n
+  pub located_range : (n v h : ℕ) → (h ≤ located n t v h) × (located n t v h ≤ h + n)
+  located_range zero v h = (omega arith, omega arith)
+  located_range (suc n) v h = go (eqb (tag_in (get_or t v 0)) 0) (located_range n (v / 2) (suc h))
+    where
+      go : (x : Bool) → (suc h ≤ located n t (v / 2) (suc h)) × (located n t (v / 2) (suc h) ≤ suc h + n) → (h ≤ cond x (located n t (v / 2) (suc h)) h) × (cond x (located n t (v / 2) (suc h)) h ≤ h + suc n)
+      go true r = (omega arith, omega arith)
+      go false r = (omega arith, omega arith)
+
+  -- where a height below h + n is found, the node there has a tag
+  pub located_tagged : (n v h : ℕ) → located n t v h < h + n → tag_in (get_or t (above (located n t v h - h) v) 0) ≢ 0
+  located_tagged zero v h l = absurd (omega arith)
+  located_tagged (suc n) v h l = go (split (eqb (tag_in (get_or t v 0)) 0)) (located_tagged n (v / 2) (suc h))
+    where
+      go : (eqb (tag_in (get_or t v 0)) 0 ≡ true) ⊎ (eqb (tag_in (get_or t v 0)) 0 ≡ false)
+          → (located n t (v / 2) (suc h) < suc h + n → tag_in (get_or t (above (located n t (v / 2) (suc h) - suc h) (v / 2)) 0) ≢ 0)
+          → tag_in (get_or t (above (located (suc n) t v h - h) v) 0) ≢ 0
+      go (inl x) ih =
+          let y : ℕ = located n t (v / 2) (suc h) in
+          let l' : y < h + suc n = rw x at l in
+          let one_more : y - h ≡ suc (y - suc h) = omega (arith, located_range n (v / 2) (suc h)) in
+          rw (x, one_more) (ih (omega arith))
+      go (inr x) ih =
+          let none_more : h - h ≡ 0 = omega arith in
+          rw (x, none_more) (eqb-false (tag_in (get_or t v 0)) 0 x)
+
+  -- the same for the way up from a leaf through the heights 0 to m
+  pub located_tag : (m x h v : ℕ) → h ≡ located (suc m) t x 0 → v ≡ above h x → h ≤ m → tag_in (get_or t v 0) ≢ 0
+  located_tag m x h v found node l =
+      let up : h - 0 ≡ h = omega arith in
+      let tagged : tag_in (get_or t (above (h - 0) x) 0) ≢ 0 = rw found (located_tagged (suc m) x 0 (omega arith)) in
+      rw node (rw up at tagged)
 
 -- ---- on a table that holds a tree
 

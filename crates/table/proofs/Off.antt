@@ -33,6 +33,14 @@ above_part (suc d) u r l = grind (arith, node_twice u d, above_part d u (r / 2) 
 abbrev pub Off : ℕ → ℕ → Type 0
 Off u w = (j : ℕ) → above j u ≡ w → ⊥
 
+-- what is off a node is off its left half
+pub off_left : (u v : ℕ) → Off u v → Off u (2 * v)
+off_left u v o j e = o (suc j) (omega (arith, above_half j u))
+
+-- and off its right half
+pub off_right : (u v : ℕ) → Off u v → Off u (2 * v + 1)
+off_right u v o j e = o (suc j) (omega (arith, above_half j u))
+
 -- what is off the half of a node is off the node
 pub off_half : (u w : ℕ) → Off u (w / 2) → Off u w
 off_half u w o j e = o (suc j) (above_half j u ∙ ap (λ (x : ℕ). x / 2) e)

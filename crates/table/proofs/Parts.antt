@@ -1,5 +1,5 @@
 -- The table of a tree as a function of it: each needed cell of a table that holds a tree, and a table that holds it. Assumes nothing.
-use Rattle.std.proofs.Common.{List, ◌*◌, ◌+◌, ◌-◌, ◌/◌, ◌<◌, ◌^◌, ◌↔◌, ◌∙◌, ◌≡◌, ◌≤◌, ap, arith, le-leb, lt-ltb, ne_eqb, pow_mono, pow_pos, refl, suc, sym, zero, ℕ, ⊎_elim}
+use Rattle.std.proofs.Common.{List, ◌%◌, ◌*◌, ◌+◌, ◌-◌, ◌/◌, ◌<◌, ◌^◌, ◌↔◌, ◌∙◌, ◌≡◌, ◌≤◌, ◌⊎◌, ap, arith, inl, inr, le-leb, lt-ltb, ne_eqb, pow_mono, pow_pos, refl, suc, sym, zero, ℕ, ⊎_elim}
 use Rattle.std.proofs.Math.Nat.{pow-succ', sub_self}
 use Rattle.std.proofs.lemmas.Bool.{lt-leb}
 use Rattle.laws.proofs.Logic.{le_or_lt}
@@ -21,6 +21,10 @@ left_wf (wf_pair u v) = u
 pub right_wf : {h : ℕ} {T : Tree} → WF (suc h) T → WF h (right_of h T)
 right_wf (wf_whole {h = suc h}) = vacant_wf h
 right_wf (wf_pair u v) = v
+
+-- a node is the left half of the one above it, or the right half
+pub even_or_odd : (v : ℕ) → ((v % 2 ≡ 0) × (v ≡ 2 * (v / 2))) ⊎ ((v % 2 ≡ 1) × (v ≡ 2 * (v / 2) + 1))
+even_or_odd v = ⊎_elim (λ (l : v % 2 ≤ 0). inl (omega arith, omega arith)) (λ (l : 0 < v % 2). inr (omega arith, omega arith)) (le_or_lt (v % 2) 0)
 
 -- ---- the parts of a tree
 
@@ -75,6 +79,10 @@ node_left m h v l n = let z = next_level m h l in record { from = omega (arith, 
 -- so is the right half
 pub node_right : (m h v : ℕ) → h < m → NodeOf m (suc h) v → NodeOf m h (2 * v + 1)
 node_right m h v l n = let z = next_level m h l in record { from = omega (arith, n.from); below = omega (arith, n.below) }
+
+-- every node is in the tree's part of the table
+pub node_small : (m h v : ℕ) → NodeOf m h v → (0 < v) × (v < 2 * 2 ^ m)
+node_small m h v n = (omega (arith, n.from, pow_pos (m - h)), omega (arith, n.below, pow_mono {i = m - h} {j = m} (omega arith)))
 
 -- ---- how deep a node is
 

@@ -1,8 +1,8 @@
 -- Check-up: all local tests pass on the tables that stand for a set of live blocks, and on no other. Assumes nothing.
-use Rattle.std.proofs.Common.{List, ◌*◌, ◌+◌, ◌-◌, ◌<◌, ◌^◌, ◌↔◌, ◌∙◌, ◌≡◌, ◌≤◌, add-one, ap, arith, cond, eqb, false, get_or, length, refl, subst, suc, sym, true, zero, ℕ}
+use Rattle.std.proofs.Common.{List, ◌*◌, ◌+◌, ◌-◌, ◌<◌, ◌^◌, ◌↔◌, ◌∙◌, ◌≡◌, ◌≤◌, add-one, ap, arith, cond, eqb, false, get_or, length, refl, subst, suc, sym, true, zero, ℕ, ⊎_elim}
 use Rattle.cells.specs.Cell.{packed, room_in}
 use Rattle.digits.specs.Digits.{ones}
-use Rattle.laws.proofs.Logic.{contra}
+use Rattle.laws.proofs.Logic.{contra, le_or_lt}
 use Rattle.meaning.specs.Blocks.{Live, m_most, slots}
 use Rattle.trees.specs.Tree.{Tree, blocks, cut, empty, pair, vacant, whole}
 use Rattle.table.proofs.Cells.{cell_room, enc_cell, enc_fit, enc_wf, join_cell}
@@ -95,6 +95,18 @@ sound_exactly t m s l = (
 )
 
 -- ---- how check-up's loops establish the tests
+
+-- no node yet
+pub run_sound_none : (t : List ℕ) (pages h a : ℕ) → RunSound t pages h a a
+run_sound_none t pages h a v p q = absurd (omega arith)
+
+-- one node more
+pub run_sound_more : (t : List ℕ) (pages h a b : ℕ) → RunSound t pages h a b → sound_at t pages h b ≡ true → RunSound t pages h a (b + 1)
+run_sound_more t pages h a b f e v p q = ⊎_elim (λ (y : b ≤ v). let z : b ≡ v = omega arith in rw (← z) e) (λ (y : v < b). f v p y) (le_or_lt b v)
+
+-- no level yet
+pub levels_sound_none : (t : List ℕ) (m : ℕ) → LevelsSound t m 0
+levels_sound_none t m k v b l n = absurd (omega arith)
 
 -- one level more
 pub levels_sound_more : (t : List ℕ) (m h first : ℕ) → first ≡ 2 ^ (m - h) → LevelsSound t m h → RunSound t (2 ^ m) h first (2 * first) → LevelsSound t m (h + 1)

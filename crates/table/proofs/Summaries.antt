@@ -1,7 +1,7 @@
 -- What the summary of a tree says: how much room there is, whether all of it is free, and which sizes have a slot. Assumes nothing.
-use Rattle.std.proofs.Common.{Bool, ◌&&◌, ◌+◌, ◌<◌, ◌^◌, ◌||◌, ◌∙◌, ◌≡◌, ◌≢◌, ◌⊎◌, ap, ap₂, arith, cond, eq-eqb, eqb, false, inl, inr, le-ltb, lt-ltb, ltb, max, ne_eqb, not, pow_pos, refl, suc, sym, true, zero, ℕ}
+use Rattle.std.proofs.Common.{Bool, ◌&&◌, ◌+◌, ◌<◌, ◌^◌, ◌||◌, ◌∙◌, ◌≡◌, ◌≢◌, ◌⊎◌, ap, ap₂, arith, cond, eq-eqb, eqb, eqb-true, false, inl, inr, le-ltb, lt-ltb, ltb, max, ne_eqb, not, pow_pos, refl, suc, sym, true, zero, ℕ, ⊎_elim}
 use Rattle.std.proofs.Math.Option.{Option, none, some}
-use Rattle.std.proofs.lemmas.Bool.{not-false}
+use Rattle.std.proofs.lemmas.Bool.{eqb-false, not-false}
 use Rattle.cells.specs.Cell.{room_of_pair}
 use Rattle.digits.proofs.Digits.{bit_at-bit_or, bit_complement, bit_pow, bit_zero, bits_none}
 use Rattle.digits.specs.Digits.{bit_at}
@@ -79,6 +79,13 @@ open_slot c taken b = go (lowest_zero (slots c) taken) refl
         let z = zero_digit (slots c) taken i e in
         let partial : open_bits c taken ≢ 0 = λ x. contra (open_bit c taken i b z.0 ∙ ap not z.1) (ap (bit_at i) x ∙ bit_zero i) in
         rw (e, ne_eqb (open_bits c taken) 0 partial) refl
+
+-- the order of two numbers does not matter
+pub eqb_swap : (a b : ℕ) → eqb a b ≡ eqb b a
+eqb_swap a b = ⊎_elim
+    (λ (t : eqb a b ≡ true). t ∙ sym (eq-eqb b a (sym (eqb-true a b t))))
+    (λ (t : eqb a b ≡ false). t ∙ sym (ne_eqb b a (λ e. eqb-false a b t (sym e))))
+    (split (eqb a b))
 
 -- a page's mask has the digit of the size that it serves, where it has a slot
 leaf_mask : (c d taken : ℕ) → taken < 2 ^ slots d → bit_at c (mask_of (cut d taken)) ≡ has_room c (cut d taken)

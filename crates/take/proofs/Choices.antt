@@ -1,5 +1,5 @@
 -- `take_slot` and `take_block`: which part of take answers, and that its block is the one to be had. Assumes nothing.
-use Rattle.std.proofs.Common.{List, ◌*◌, ◌+◌, ◌-◌, ◌<◌, ◌^◌, ◌∙◌, ◌≡◌, ◌≤◌, arith, false, get_or, le-leb, refl, sym, true, ℕ}
+use Rattle.std.proofs.Common.{Bool, List, ◌*◌, ◌+◌, ◌-◌, ◌<◌, ◌^◌, ◌∙◌, ◌≡◌, ◌≤◌, ap, arith, false, get_or, le-leb, refl, sym, true, ℕ}
 use Rattle.std.proofs.Math.Option.{some}
 use Rattle.std.proofs.lemmas.Bool.{lt-leb}
 use Rattle.cells.specs.Cell.{has_room_for, has_size}
@@ -14,24 +14,28 @@ use Rattle.take.specs.Took.{Took}
 
 -- ---- a small block
 
+-- a test of the root's cell, from the test of what was read: what `take_served` and `take_fresh` require
+pub root_passes : (f : ℕ → Bool) {x y : ℕ} {b : Bool} → x ≡ y → b ≡ f x → b ≡ true → f y ≡ true
+root_passes f read test passed = ap f (sym read) ∙ (sym test ∙ passed)
+
 module _ {m c : ℕ} {t : List ℕ} (c< : c < size_count) where
   -- where no page serves the size and has a slot, only a free page will do
   left : has_size c (get_or t 1 0) ≡ false → (L : Live) → Stands m L t → small_place m L c ≡ fresh_place m L c
   unfolding small_place
   left unserved L st = or_else_second (served_place m L c) (fresh_place m L c) (sym (root_size st c c<) ∙ unserved)
 
-  module _ {s s₁ : ℕ} {t' : List ℕ} (once : s₁ ≡ s + 1) where
+  module _ {most s s₁ : ℕ} {t' : List ℕ} (once : s₁ ≡ s + 1) (enough : 3 * m + 5 ≤ most) where
     -- some page serves the size and has a slot
-    pub slot_served : {r : Answer} {s' : ℕ} → has_size c (get_or t 1 0) ≡ true → Took m (3 * m + 4) (small c) (λ L. served_place m L c) t t' r s₁ s' → Took m (3 * m + 5) (small c) (λ L. small_place m L c) t t' r s s'
+    pub slot_served : {r : Answer} {s' : ℕ} → has_size c (get_or t 1 0) ≡ true → Took m (3 * m + 4) (small c) (λ L. served_place m L c) t t' r s₁ s' → Took m most (small c) (λ L. small_place m L c) t t' r s s'
     unfolding small_place
     slot_served served part = took_as part (omega arith) refl (λ L st. or_else_first (served_place m L c) (fresh_place m L c) (sym (root_size st c c<) ∙ served))
 
     -- some page is free
-    pub slot_fresh : {r : Answer} {s' : ℕ} → has_size c (get_or t 1 0) ≡ false → Took m (3 * m + 3) (small c) (λ L. fresh_place m L c) t t' r s₁ s' → Took m (3 * m + 5) (small c) (λ L. small_place m L c) t t' r s s'
+    pub slot_fresh : {r : Answer} {s' : ℕ} → has_size c (get_or t 1 0) ≡ false → Took m (3 * m + 3) (small c) (λ L. fresh_place m L c) t t' r s₁ s' → Took m most (small c) (λ L. small_place m L c) t t' r s s'
     slot_fresh unserved part = took_as part (omega arith) refl (left unserved)
 
     -- no page is free
-    pub slot_none : has_size c (get_or t 1 0) ≡ false → has_room_for 0 (get_or t 1 0) ≡ false → t' ≡ t → Took m (3 * m + 5) (small c) (λ L. small_place m L c) t t' (refused 3) s s₁
+    pub slot_none : has_size c (get_or t 1 0) ≡ false → has_room_for 0 (get_or t 1 0) ≡ false → t' ≡ t → Took m most (small c) (λ L. small_place m L c) t t' (refused 3) s s₁
     slot_none unserved full kept = nothing_taken (omega arith) kept (λ L st. left unserved L st ∙ has_not (fresh_place m L c) (sym (root_fresh st c) ∙ full))
 
 -- ---- a block for n bytes

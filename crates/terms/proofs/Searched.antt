@@ -1,10 +1,11 @@
 -- How a table of the ten sizes, and a loop that looks for the least size, are shown right. Assumes nothing.
-use Rattle.std.proofs.Common.{List, ◌*◌, ◌<◌, ◌^◌, ◌≡◌, ◌≤◌, arith, eqb, eqb-true, get_or, le-leb, leb, not, suc, ℕ}
+use Rattle.std.proofs.Common.{List, ◌*◌, ◌+◌, ◌-◌, ◌<◌, ◌^◌, ◌≡◌, ◌≤◌, ap, arith, eq-or-lt_of_le, eqb, eqb-true, get_or, le-leb, leb, not, pow_mono, suc, ℕ, ⊎_elim}
 use Rattle.std.proofs.Math.Option.{none, some}
 use Rattle.std.proofs.lemmas.Bool.{lt-leb, not-false}
+use Rattle.laws.proofs.Logic.{le_or_lt}
 use Rattle.laws.proofs.Searches.{lowest_is, lowest_none}
 use Rattle.meaning.specs.Answers.{k_for, size_for}
-use Rattle.meaning.specs.Blocks.{page_bytes, size_count, small}
+use Rattle.meaning.specs.Blocks.{arena, page_bytes, size_count, small, small_most}
 use Rattle.meaning.specs.Search.{least}
 
 -- a table that passes one test over the ten numbers has the ten sizes
@@ -35,3 +36,12 @@ least_in_table xs n r e b h g = size_for_is n r b (omega (arith, table_of_sizes 
 pub k_for_is : (m n r : ℕ) → r ≤ m → n ≤ page_bytes * 2 ^ r → ((j : ℕ) → j < r → page_bytes * 2 ^ j < n) → k_for m n ≡ some r
 unfolding k_for
 k_for_is m n r b = least_is (λ k. page_bytes * 2 ^ k) n (suc m) r (omega arith)
+
+-- where size number c is too small, there is a next one
+pub size_left : (n c : ℕ) → n ≤ small_most → c < size_count → small c < n → c + 1 < size_count
+unfolding small
+size_left n c h b l = ⊎_elim (λ (e : suc c ≡ size_count). absurd (let last : c ≡ size_count - 1 = omega arith in omega (arith, ap small last))) (λ (q : suc c < size_count). omega arith) (eq-or-lt_of_le b)
+
+-- where 2 ^ k pages are too few, the arena has more
+pub k_left : (m n k : ℕ) → n ≤ arena m → page_bytes * 2 ^ k < n → k < m
+k_left m n k h l = ⊎_elim (λ (q : m ≤ k). absurd (omega (arith, pow_mono q))) (λ (q : k < m). q) (le_or_lt m k)

@@ -133,6 +133,10 @@ run_taken k d i j w e x =
     change_insert k x.change w e (large k j) (omega arith) (omega (arith, pow_pos k))
     (sym (ap (λ (y : Live). insert (large k j) y) (no_blocks x.wf x.empties (j * 2 ^ k))))
 
+-- and the tree with the run taken is well formed
+pub run_wf : {h : ℕ} {T : Tree} (k d i j : ℕ) → WF h T → h ≡ k + d → (x : Run k d i j T) → WF h x.new
+run_wf k d i j w e x = change_wf x.change w e wf_whole
+
 pub vacant_wf : (k : ℕ) → WF k (vacant k)
 unfolding vacant
 vacant_wf zero = wf_empty

@@ -66,11 +66,13 @@ pub fn locate(t: &[u64], arena: Arena, leaf: usize, spent: &mut u64) -> Option<T
     requires few_spent { spent.old < 2 ^ 31 }
     ensures { MatchOption result (Untagged t.now arena.m leaf spent.old spent.new) (λ found. Located t.now arena.m leaf found spent.old spent.new) }
 {
+    let mut v = leaf;
     for height in 0..=arena.m {
-        let cell = get(t, node_above(leaf, height), spent);
+        let cell = get(t, v, spent);
         if let Some(tag) = tag_of(cell) {
             return Some(Tagged { height, tag });
         }
+        v /= 2;
     }
     None
 }

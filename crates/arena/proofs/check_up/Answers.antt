@@ -1,6 +1,7 @@
 -- `arena::check_up` meets its contract: by the laws of what is refused at once, and of the part of the table. Assumes nothing.
-use Rattle.std.proofs.Common.{ap, arith, ℕ, ◌^◌}
+use Rattle.std.proofs.Common.{ap, arith, refl, ℕ, ◌^◌}
 use Rattle.arena.proofs.Reading.{check_refused, check_served}
+use Rattle.arena.proofs.Refused.{number_pos}
 use Rattle.arena.proofs.Served.{lent}
 use Rattle.arena.proofs.check_up.Goals as goal
 
@@ -15,7 +16,7 @@ returns-in-Ok c =
     record { in_order = w.in_order; refusal_alone = w.alone; ends_within = omega (arith, done.cost); exact = w.exact }
 
 pub returns-in-Err-clause-in_order : goal.returns-in-Err-clause-in_order
-returns-in-Err-clause-in_order c = rw c.refused.ensures.refusal (check_refused c.args.m c.args.t.now c.in-Err.why c.in-Err.ensures).in_order
+returns-in-Err-clause-in_order c = rw c.refused.ensures.refusal (check_refused c.args.m c.args.t.now _ c.in-Err.ensures (λ z. omega (arith, number_pos c.in-Err.why)) refl).in_order
 
 pub returns-in-Err-clause-exact : goal.returns-in-Err-clause-exact
-returns-in-Err-clause-exact c = rw c.refused.ensures.refusal (check_refused c.args.m c.args.t.now c.in-Err.why c.in-Err.ensures).exact
+returns-in-Err-clause-exact c = rw c.refused.ensures.refusal (check_refused c.args.m c.args.t.now _ c.in-Err.ensures (λ z. omega (arith, number_pos c.in-Err.why)) refl).exact

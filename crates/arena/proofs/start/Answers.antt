@@ -3,7 +3,7 @@ use Rattle.std.proofs.Common.{ap, arith, refl, sym, ℕ, ◌^◌, ◌∙◌}
 use Rattle.std.proofs.lemmas.Grind.{common_steps}
 use Rattle.meaning.specs.Answers.{done as finished, start}
 use Rattle.arena.proofs.Changing.{not_started, started}
-use Rattle.arena.proofs.Refused.{Promised, no_argument, not_admitted}
+use Rattle.arena.proofs.Refused.{Promised, no_argument, not_admitted, number_pos}
 use Rattle.arena.proofs.Served.{at_exit, lent}
 use Rattle.arena.specs.Promises.{Started}
 use Rattle.arena.proofs.start.Goals as goal
@@ -25,4 +25,4 @@ pub returns-in-Err-clause-in_order : goal.returns-in-Err-clause-in_order
 returns-in-Err-clause-in_order c = rw c.refused.ensures.refusal (not_admitted start c.args.t.now c.in-Err.why (sym (no_argument c.args.m).0) c.in-Err.ensures).in_order
 
 pub returns-in-Err-clause-right : goal.returns-in-Err-clause-right
-returns-in-Err-clause-right c = rw c.refused.ensures.refusal (not_started c.args.m c.args.t.now c.in-Err.why c.in-Err.ensures)
+returns-in-Err-clause-right c = rw c.refused.ensures.refusal (not_started c.args.m c.args.t.now _ c.in-Err.ensures (λ z. omega (arith, number_pos c.in-Err.why)))

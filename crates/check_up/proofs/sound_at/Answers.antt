@@ -2,7 +2,12 @@
 use Rattle.std.proofs.Common.{◌*◌, ◌+◌, ◌-◌, ◌<◌, ◌≡◌, ◌≢◌, ◌≤◌, ◌^◌, arith, suc, pow_mono, ℕ}
 use Rattle.std.proofs.Math.Nat.{pow-succ'}
 use Rattle.table.proofs.Sound.{sound_at_leaf, sound_at_node}
+use Rattle.table.specs.Table.{need}
 use Rattle.check_up.proofs.sound_at.Goals as goal
+
+-- the node is in the table, and so is the bitmap behind it
+node_inside : (m h v : ℕ) → h ≤ m → v < 2 * 2 ^ (m - h) → v + 2 ^ m < need m
+node_inside m h v a b = omega (arith, pow_mono {i = m - h} {j = m} (omega arith))
 
 -- the halves of a node that is no leaf are nodes
 halves_inside : (m h v : ℕ) → h ≤ m → v < 2 * 2 ^ (m - h) → h ≢ 0 → 2 * v + 1 < 2 * 2 ^ m
@@ -10,8 +15,7 @@ halves_inside m h v a b n = omega (arith, pow-succ' 2 (m - h), pow_mono {i = suc
 
 pub get-cell-requires-clause-inside : goal.get-cell-requires-clause-inside
 get-cell-requires-clause-inside c =
-    let m = c.args.book.now.arena.m in
-    omega (arith, pow_mono {i = m - c.args.h} {j = m} (omega arith))
+    omega (arith, node_inside c.args.book.now.arena.m c.args.h c.args.v c.requires.h_in_range c.requires.v_below)
 
 pub returns-then-h-eq0-clause-verdict : goal.returns-then-h-eq0-clause-verdict
 returns-then-h-eq0-clause-verdict c =

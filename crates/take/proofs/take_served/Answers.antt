@@ -20,4 +20,4 @@ returns-clause-took c =
     let put = rw (same, same_arena, c.page_cell.ensures) at c.put_leaf.ensures.put in
     let place = rw (c.put_leaf.ensures.same_book.1, same_arena) at c.slot_offset.ensures in
     let offered = rw c.in_ok-i.ensures.ok_part at c.slot_offered.ensures in
-    served_some c.args.size.in_range c.requires.page_there c.down-w.ensures.reached (cc) (cc) (omega arith) offered (cc) put place.starts place.inside
+    served_some c.args.size.in_range c.requires.page_there c.down-w.ensures.reached {cell = c.get-cell.result} (cc) (cc) (omega arith) offered.lowest offered.of_page (cc) put place.starts place.inside

@@ -1,5 +1,5 @@
 -- `which::tell_block` meets its contract: each way out by a law of Block, and the last by what `tell_slot` ensures. Assumes nothing.
-use Rattle.std.proofs.Common.{arith}
+use Rattle.std.proofs.Common.{arith, sym, ◌∙◌}
 use Rattle.table.proofs.Locate.{above_range}
 use Rattle.which.proofs.Block.{block_high, block_large, block_no_size, block_none}
 use Rattle.which.proofs.tell_block.Goals as goal
@@ -17,7 +17,7 @@ returns-in-Whole-clause-told c = block_large _ _ _ _ _ _ c.requires.o_in_arena c
     _ _ _ c.in-Whole.is c.node_above.ensures (rw c.locate.ensures.kept.1 at c.run_offset.ensures.starts) (rw c.locate.ensures.kept.1 at c.run_offset.ensures.inside) c.run_bytes.ensures
 
 pub returns-in_default-tag-clause-told : goal.returns-in_default-tag-clause-told
-returns-in_default-tag-clause-told c = block_high _ _ _ _ _ _ c.requires.o_in_arena c.leaf_at-leaf.ensures.exact _ c.in-Some.ensures.found _ c.in-Page.is (omega arith)
+returns-in_default-tag-clause-told c = block_high _ _ _ _ _ _ c.requires.o_in_arena c.leaf_at-leaf.ensures.exact _ c.in-Some.ensures.found (λ whole. let e = sym c.in-Page.is ∙ whole in absurd (cc)) (omega arith)
 
 pub returns-in_default-tag-2-clause-told : goal.returns-in_default-tag-2-clause-told
 returns-in_default-tag-2-clause-told c = block_no_size _ _ _ _ _ _ c.requires.o_in_arena c.leaf_at-leaf.ensures.exact _ c.in-Some.ensures.found _ c.in_default-tag.is
