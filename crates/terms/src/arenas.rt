@@ -83,10 +83,12 @@ impl Arena {
         ensures found { k_for self.m n ≡ some result }
         ensures small { result ≤ self.m }
     {
+        let mut bytes = PAGE_BYTES;
         for k in 0..self.m {
-            if n <= run_bytes(k) {
+            if n <= bytes {
                 return k;
             }
+            bytes *= 2;
         }
         self.m
     }
